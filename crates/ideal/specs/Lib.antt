@@ -1,0 +1,4 @@
+pub mod Lists
+pub mod Polynomials
+pub mod Rings
+pub mod Algebra

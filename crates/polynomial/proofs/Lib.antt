@@ -1,0 +1,9 @@
+pub mod Exponents
+pub mod Comparing
+pub mod Outcomes
+pub mod Viewing
+pub mod Reading
+pub mod Polynomials
+pub mod Leading
+pub mod Nexts
+pub mod Steps

@@ -1,0 +1,5 @@
+pub mod Results
+pub mod Views
+pub mod Rings
+pub mod Limits
+pub mod Tables

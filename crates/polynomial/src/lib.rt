@@ -1,0 +1,12 @@
+// Polynomials as data: monomials, terms, tables in, and sums that grow step by step within limits.
+mod monomial;
+mod term;
+mod polynomial;
+mod flaw;
+mod ring;
+
+pub use flaw::{Flaw, Limit, TableSize};
+pub use monomial::Monomial;
+pub use polynomial::Polynomial;
+pub use ring::Ring;
+pub use term::Term;

@@ -1,0 +1,16 @@
+// Polynomials in some variables over a field, ordered by a monomial order.
+ghost use Prim.Native.Nat.{_≤_};
+
+mod methods;
+mod codes;
+mod table;
+mod sums;
+
+#[derive(Drop)]
+pub struct Ring<F, O> {
+    pub(crate) field: F,
+    pub(crate) order: O,
+    pub(crate) variables: usize,
+    ghost some: { 1 ≤ variables },
+    ghost few: { variables ≤ 24 },
+}
