@@ -7,3 +7,4 @@ pub mod Polynomials
 pub mod Leading
 pub mod Nexts
 pub mod Steps
+pub mod Same

@@ -2,7 +2,7 @@
 use mathlib.Core.Path.{_≡_, refl, sym, ap, ap₂, subst, _∙_}
 use mathlib.Core.Bool.{Bool, true, false, _&&_}
 use mathlib.Core.List.{List, [], _∷_, _++_, append-assoc}
-use Prim.Native.Nat.{ℕ, zero, suc, _+_, _<_, _≤_}
+use Prim.Native.Nat.{ℕ, zero, suc, _+_, _-_, _<_, _≤_}
 use native.Mathlib.Omega.{arith}
 use lib.Dec.{leb}
 use lib.ListN.{length, drop, length-append}
@@ -12,15 +12,16 @@ use Rattle.std.specs.declared.result.Result.the-variants.{Ok, Err}
 use Rattle.field.specs.Fields.{Arithmetic, FieldLaws}
 use Rattle.order.specs.Monomials.{multiply, small}
 use Rattle.order.specs.Orders.{Compare, OrderLaws}
-use Rattle.ideal.specs.Polynomials.{Operations, Term as Written, multiple}
+use Rattle.ideal.specs.Polynomials.{Operations, Term as Written, sum, multiple}
 use Rattle.ideal.specs.Rings.{Raw, ring, Polynomial}
 use Rattle.ideal.proofs.Carried as carried
-use Rattle.polynomial.specs.Limits.{all-small, tight, bounded}
-use Rattle.polynomial.specs.Results.{_>>_, check}
+use Rattle.polynomial.specs.Limits.{all-small, tight, bounded, step}
+use Rattle.polynomial.specs.Results.{_>>=_, _>>_, check}
 use Rattle.polynomial.specs.Views.{term-of, view}
 use Rattle.polynomial.specs.declared.flaw.Limit.{Limit}
 use Rattle.polynomial.specs.declared.flaw.Limit.the-variants.{Exponent, Terms}
 use Rattle.polynomial.specs.declared.term.Term.{Term}
+use Rattle.polynomial.proofs.Outcomes.{checked}
 
 -- what comes behind what is written
 abbrev pub behind : Raw → Result Raw Limit → Result Raw Limit
@@ -61,3 +62,14 @@ pub within-drop : {k : Arithmetic} (F : FieldLaws k) {n : ℕ} {cmp : Compare} (
 within-drop F O zero ts h = h
 within-drop F O (suc i) [] h = h
 within-drop F O (suc i) (t ∷ ts) h = within-drop F O i ts (carried.uncons F O (term-of t) (view ts) h .1)
+
+-- what is not refused is what it was
+pub tight-is : (p v : Raw) → Ok v ≡ tight p → v ≡ p
+tight-is p v e = let (b, is) = checked (all-small p) Exponent (Ok p) v (sym e) in cc
+
+pub bounded-is : (room : ℕ) (p v : Raw) → Ok v ≡ bounded room p → v ≡ p
+bounded-is room p v e = let (b, is) = checked (leb (length p) room) Terms (Ok p) v (sym e) in cc
+
+-- a step in its two parts
+pub step-is : (o : Operations ℕ (List ℕ)) (b room : ℕ) (t : Written ℕ (List ℕ)) (p f m v : Raw) → room ≡ 512 - b → Ok m ≡ tight (multiple o t p) → Ok v ≡ bounded room (sum o m f) → Ok v ≡ step o b t p f
+step-is o b room t p f m v r e d = d ∙ ap (λ z. bounded z (sum o m f)) r ∙ ap (λ (x : Result Raw Limit). x >>= (λ m. bounded (512 - b) (sum o m f))) e

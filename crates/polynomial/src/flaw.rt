@@ -1,7 +1,7 @@
 // What can be wrong with a table, and which limit a step can meet.
 
 // How many terms a table may have.
-#[derive(Clone, Copy, PartialEq, Eq, Debug)]
+#[derive(Clone, Copy)]
 pub enum TableSize {
     // 32 terms: what is kept
     Short,
@@ -10,7 +10,7 @@ pub enum TableSize {
 }
 
 // What is wrong with one table; the last three carry the number of the term.
-#[derive(Clone, Copy, PartialEq, Eq, Debug)]
+#[derive(Clone, Copy)]
 pub enum Flaw {
     // its length is no multiple of the numbers in a term
     Length,
@@ -24,7 +24,7 @@ pub enum Flaw {
     Order(usize),
 }
 
-#[derive(Clone, Copy, PartialEq, Eq, Debug)]
+#[derive(Clone, Copy)]
 pub enum Limit {
     // an exponent of a product passes 255
     Exponent,

@@ -5,6 +5,8 @@ use crate::term::Term;
 
 mod methods;
 
+pub const MOST_TERMS: usize = 512;
+
 #[derive(Drop)]
 pub struct Polynomial {
     pub(crate) terms: Vec<Term>,

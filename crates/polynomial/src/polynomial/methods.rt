@@ -4,11 +4,10 @@ ghost use mathlib.Core.List.{[]};
 ghost use Rattle.std.specs.Of.Vec.{vec-items};
 ghost use Rattle.std.specs.Vec.{made};
 use crate::polynomial::Polynomial;
+use crate::polynomial::MOST_TERMS;
 use crate::term::Term;
 use std::alloc::AllocError;
 use std::alloc::Global;
-
-pub const MOST_TERMS: usize = 512;
 
 impl Polynomial {
     // The polynomial 0, with all the memory it will ever take.
@@ -23,5 +22,11 @@ impl Polynomial {
         ensures { λ r. ⌜ now r ≡ vec-items (now (self .entry) .terms) ⌝ }
     {
         self.terms.as_slice()
+    }
+    // The polynomial 0 again.
+    pub fn clear(&mut self)
+        ensures { λ _. ⌜ vec-items (now (self .exit) .terms) ≡ [] ⌝ }
+    {
+        self.terms.clear();
     }
 }

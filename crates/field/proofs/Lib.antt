@@ -1,0 +1,4 @@
+pub mod Claims
+pub mod Inverses
+pub mod PrimeLaws
+pub mod BinaryLaws
