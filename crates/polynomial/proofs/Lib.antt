@@ -8,3 +8,5 @@ pub mod Leading
 pub mod Nexts
 pub mod Steps
 pub mod Same
+pub mod Cutting
+pub mod Keeping

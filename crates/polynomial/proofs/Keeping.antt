@@ -1,0 +1,19 @@
+-- How many polynomials a list keeps, and how many terms. Assumes nothing.
+use mathlib.Core.Path.{_≡_, sym, _∙_}
+use Prim.Native.Nat.{ℕ, _+_, _*_, _<_, _≤_}
+use native.Mathlib.Omega.{arith}
+use lib.ListN.{length}
+use Rattle.std.specs.Of.Vec.{vec-len, vec-items, vec-cap}
+use Rattle.polynomial.specs.Cuts.{total}
+use Rattle.polynomial.specs.Kept.{polynomials}
+use Rattle.polynomial.specs.Views.{view}
+use Rattle.polynomial.specs.declared.list.PolynomialList.{PolynomialList}
+use Rattle.polynomial.proofs.Cutting.{cut-length, short-total}
+
+-- as many polynomials as counts
+pub numbered : (l : PolynomialList) → vec-len (l .counts) ≡ length (polynomials l)
+numbered l = l .counts .ok .0 ∙ sym (cut-length (vec-items (l .counts)) (view (vec-items (l .terms))))
+
+-- at most 32 terms to each
+pub few-terms : (l : PolynomialList) → length (vec-items (l .terms)) ≤ 32 * length (vec-items (l .counts))
+few-terms l = let s = short-total (vec-items (l .counts)) (l .short) in let w = l .whole in omega arith

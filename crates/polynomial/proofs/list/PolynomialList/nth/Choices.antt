@@ -1,0 +1,7 @@
+use mathlib.Core.Path.{_≡_}
+use lib.ListN.{take}
+use Rattle.polynomial.specs.Cuts.{total}
+use Rattle.polynomial.proofs.list.PolynomialList.nth.Given as given
+
+abbrev pub Inv-loop-j : given.InvT-loop-j
+Inv-loop-j l = l .start ≡ total (take (l .j) (l .counts))
