@@ -67,13 +67,10 @@ impl<F: Field + Drop, O: MonomialOrder + Drop> Checker<F, O> {
         Ok(())
     }
 
-    // Whether the element of that number is the sum of cofactor × generator: its own table, one table with the cofactors,
-    // and how many terms each cofactor has.
-    pub fn check_element(&mut self, number: usize, table: &[u16], cofactors: &[u16], counts: &[u16]) -> Result<(), Fault>
+    // Reads the element and its cofactors, sums, and compares.
+    fn examine(&mut self, number: usize, table: &[u16], cofactors: &[u16], counts: &[u16]) -> Result<(), Fault>
         requires standing { ⌜ Standing arithmetic comparison (now self) ⌝ }
-        ensures standing { λ r. ⌜ Standing arithmetic comparison (now (self .exit)) ⌝ }
         ensures value { λ r. ⌜ r ≡ forgotten (check-element (arithmetic (now (self .entry) .ring .field)) (now (self .entry) .ring .variables) (comparison (now (self .entry) .ring .order)) (polynomials (now (self .entry) .generators)) number (now (table .entry)) (now (cofactors .entry)) (now (counts .entry))) ⌝ }
-        ensures verdict { λ r. ⌜ Verdict (arithmetic (now (self .entry) .ring .field)) (now (self .entry) .ring .variables) (comparison (now (self .entry) .ring .order)) (polynomials (now (self .entry) .generators)) number (now (table .entry)) (now (cofactors .entry)) (now (counts .entry)) r ⌝ }
         ensures ring { λ r. ⌜ now (self .exit) .ring ≡ now (self .entry) .ring ⌝ }
         ensures generators { λ r. ⌜ now (self .exit) .generators ≡ now (self .entry) .generators ⌝ }
     {
@@ -93,5 +90,18 @@ impl<F: Field + Drop, O: MonomialOrder + Drop> Checker<F, O> {
             return Err(Fault::NotTheSum(number));
         }
         Ok(())
+    }
+
+    // Whether the element of that number is the sum of cofactor × generator: its own table, one table with the cofactors,
+    // and how many terms each cofactor has.
+    pub fn check_element(&mut self, number: usize, table: &[u16], cofactors: &[u16], counts: &[u16]) -> Result<(), Fault>
+        requires standing { ⌜ Standing arithmetic comparison (now self) ⌝ }
+        ensures standing { λ r. ⌜ Standing arithmetic comparison (now (self .exit)) ⌝ }
+        ensures value { λ r. ⌜ r ≡ forgotten (check-element (arithmetic (now (self .entry) .ring .field)) (now (self .entry) .ring .variables) (comparison (now (self .entry) .ring .order)) (polynomials (now (self .entry) .generators)) number (now (table .entry)) (now (cofactors .entry)) (now (counts .entry))) ⌝ }
+        ensures verdict { λ r. ⌜ Verdict (arithmetic (now (self .entry) .ring .field)) (now (self .entry) .ring .variables) (comparison (now (self .entry) .ring .order)) (polynomials (now (self .entry) .generators)) number (now (table .entry)) (now (cofactors .entry)) (now (counts .entry)) r ⌝ }
+        ensures ring { λ r. ⌜ now (self .exit) .ring ≡ now (self .entry) .ring ⌝ }
+        ensures generators { λ r. ⌜ now (self .exit) .generators ≡ now (self .entry) .generators ⌝ }
+    {
+        self.examine(number, table, cofactors, counts)
     }
 }

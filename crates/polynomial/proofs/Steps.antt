@@ -21,7 +21,7 @@ use Rattle.polynomial.specs.Views.{term-of, view}
 use Rattle.polynomial.specs.declared.flaw.Limit.{Limit}
 use Rattle.polynomial.specs.declared.flaw.Limit.the-variants.{Exponent, Terms}
 use Rattle.polynomial.specs.declared.term.Term.{Term}
-use Rattle.polynomial.proofs.Outcomes.{checked}
+use Rattle.polynomial.proofs.Outcomes.{checked, bound}
 
 -- what comes behind what is written
 abbrev pub behind : Raw → Result Raw Limit → Result Raw Limit
@@ -73,3 +73,9 @@ bounded-is room p v e = let (b, is) = checked (leb (length p) room) Terms (Ok p)
 -- a step in its two parts
 pub step-is : (o : Operations ℕ (List ℕ)) (b room : ℕ) (t : Written ℕ (List ℕ)) (p f m v : Raw) → room ≡ 512 - b → Ok m ≡ tight (multiple o t p) → Ok v ≡ bounded room (sum o m f) → Ok v ≡ step o b t p f
 step-is o b room t p f m v r e d = d ∙ ap (λ z. bounded z (sum o m f)) r ∙ ap (λ (x : Result Raw Limit). x >>= (λ m. bounded (512 - b) (sum o m f))) e
+
+-- a step that is not refused is the sum
+pub step-sum : (o : Operations ℕ (List ℕ)) (b : ℕ) (t : Written ℕ (List ℕ)) (p f s : Raw) → step o b t p f ≡ Ok s → s ≡ sum o (multiple o t p) f
+step-sum o b t p f s e =
+    let (m, d, e1) = bound (tight (multiple o t p)) (λ m. bounded (512 - b) (sum o m f)) s e in
+    bounded-is (512 - b) (sum o m f) s (sym e1) ∙ ap (λ m. sum o m f) (tight-is (multiple o t p) m (sym d))

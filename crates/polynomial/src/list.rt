@@ -10,6 +10,7 @@ use crate::term::Term;
 mod methods;
 
 pub const MOST_POLYNOMIALS: usize = 32;
+
 pub const MOST_KEPT_TERMS: usize = 32;
 
 #[derive(Drop)]

@@ -37,6 +37,7 @@ impl PolynomialList {
         self.counts.as_slice()
     }
 
+    // How many polynomials there are.
     pub fn len(&self) -> usize
         ensures { λ r. ⌜ r ≡ length (polynomials (now (self .entry))) ⌝ }
     {
@@ -51,7 +52,7 @@ impl PolynomialList {
         self.counts.clear();
     }
 
-    // Keeps one polynomial more, where there is room for it.
+    // Keeps one polynomial more. The memory for its terms is there, so that the first call cannot fail.
     fn append(&mut self, p: &[Term])
         requires few { ⌜ length (polynomials (now self)) < 32 ⌝ }
         requires short { ⌜ length (now p) ≤ 32 ⌝ }

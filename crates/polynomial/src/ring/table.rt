@@ -1,6 +1,6 @@
 // Reads a polynomial from a table of 16-bit numbers: to each term its coefficient, then its exponents.
 ghost use mathlib.Core.Path.{_≡_};
-ghost use Prim.Native.Nat.{_+_};
+ghost use Prim.Native.Nat.{_+_, _≤_};
 ghost use lib.ListN.{length};
 ghost use Rattle.std.specs.Of.Vec.{vec-items};
 ghost use Rattle.std.specs.Options.{Cases, mapped};
@@ -74,6 +74,7 @@ impl<F: Field, O: MonomialOrder> Ring<F, O> {
     pub fn read(&self, size: TableSize, table: &[u16], out: &mut Polynomial) -> Result<(), Flaw>
         ensures value { λ r. ⌜ answered r (view (vec-items (now (out .exit) .terms))) ≡ read (arithmetic (now (self .entry) .field)) (now (self .entry) .variables) (comparison (now (self .entry) .order)) (most size) (now (table .entry)) ⌝ }
         ensures within { λ r. ⌜ Outcome r (λ _. Within arithmetic comparison (now (self .entry)) (view (vec-items (now (out .exit) .terms)))) (λ _. Unit {0}) ⌝ }
+        ensures few { λ r. ⌜ Outcome r (λ _. length (vec-items (now (out .exit) .terms)) ≤ most size) (λ _. Unit {0}) ⌝ }
     {
         out.terms.clear();
         let stride = self.variables + 1;

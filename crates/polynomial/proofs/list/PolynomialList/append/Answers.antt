@@ -5,7 +5,7 @@ use mathlib.Core.Bool.{true}
 use mathlib.Core.List.{List, [], _∷_, _++_}
 use Prim.Native.Nat.{ℕ, _+_, _<_, _≤_}
 use lib.ListN.{length, length-append}
-use Rattle.std.specs.Of.Vec.{vec-len, vec-items, vec-cap}
+use Rattle.std.specs.Of.Vec.{vec-items, vec-cap}
 use Rattle.std.proofs.shelf.Lists.{length-push}
 use Rattle.std.proofs.shelf.Parts.{pushed}
 use Rattle.polynomial.specs.Cuts.{total, each-short, cut}

@@ -1,3 +1,4 @@
+-- So far `start` is the sum of the counts before j.
 use mathlib.Core.Path.{_≡_}
 use lib.ListN.{take}
 use Rattle.polynomial.specs.Cuts.{total}

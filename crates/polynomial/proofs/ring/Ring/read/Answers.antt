@@ -48,6 +48,7 @@ returns-in-Break-term g c =
     record {
       value = ap (λ (r : Result (Unit {0}) Flaw). answered r out) is ∙ ap err-of was ∙ whole k n cmp (most (c .args .size)) (c .args .table .now) (Err (c .in-Break-term .field-0 .0)) (c .if-table-stride-ne0 .left) (omega arith) (c .loop-number .inv .4 ∙ stop);
       within = on-refusal (c .from-residual .result) _ flaw is;
+      few = on-refusal (c .from-residual .result) _ flaw is;
     }
 
 pub loop-number-again : need.loop-number-again
@@ -83,4 +84,4 @@ returns g c =
     let out = view (vec-items (c .loop-number .out .terms)) in
     let none = terms-none k n cmp (count - i) i (mapped exponents-of (c .loop-number .last)) (c .loop-number .rest .now) (omega arith) in
     let value : Ok out ≡ read k n cmp (most (c .args .size)) (c .args .table .now) = whole k n cmp (most (c .args .size)) (c .args .table .now) (Ok out) (c .if-table-stride-ne0 .left) (omega arith) (c .loop-number .inv .4 ∙ ap (prefixed out) none ∙ ap Ok (append-nil out)) in
-    record { value = value; within = read-good k n cmp (g .O·MonomialOrder·met .lawful (c .args .self .now .order) n) (most (c .args .size)) (c .args .table .now) out (sym value) }
+    record { value = value; within = read-good k n cmp (g .O·MonomialOrder·met .lawful (c .args .self .now .order) n) (most (c .args .size)) (c .args .table .now) out (sym value); few = let (a, b, d, e, f) = c .loop-number .inv in let w = c .loop-number .out .terms .ok .0 in omega arith }
