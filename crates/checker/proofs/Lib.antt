@@ -1,2 +1,4 @@
+pub mod Adding
+pub mod Parts
 pub mod Elements
 pub mod Verdicts

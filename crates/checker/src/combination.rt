@@ -53,14 +53,28 @@ fn in_work(work: Work, step: Result<(), Limit>) -> Result<(), ArithmeticFault>
 }
 
 // Reads the cofactor of that number.
-fn read_cofactor<F: Field, O: MonomialOrder>(ring: &Ring<F, O>, number: usize, part: &[u16], out: &mut Polynomial) -> Result<(), TableFault>
+fn read_cofactor<F: Field, O: MonomialOrder>(
+    ring: &Ring<F, O>,
+    number: usize,
+    part: &[u16],
+    out: &mut Polynomial,
+) -> Result<(), TableFault>
     ensures value { λ r. ⌜ answered r (view (vec-items (now (out .exit) .terms))) ≡ read-cofactor (arithmetic (now (ring .entry) .field)) (now (ring .entry) .variables) (comparison (now (ring .entry) .order)) number (now (part .entry)) ⌝ }
 {
-    in_table(Place::Cofactor(number), ring.read(TableSize::Short, part, out))
+    in_table(
+        Place::Cofactor(number),
+        ring.read(TableSize::Short, part, out),
+    )
 }
 
 // Adds the product of a generator and each term of its cofactor, the highest first, one step each.
-fn add_terms<F: Field, O: MonomialOrder>(ring: &Ring<F, O>, number: usize, cofactor: &[Term], generator: &[Term], sum: &mut Accumulator) -> Result<(), ArithmeticFault>
+fn add_terms<F: Field, O: MonomialOrder>(
+    ring: &Ring<F, O>,
+    number: usize,
+    cofactor: &[Term],
+    generator: &[Term],
+    sum: &mut Accumulator,
+) -> Result<(), ArithmeticFault>
     requires cofactor { ⌜ Within arithmetic comparison (now ring) (view (now cofactor)) ⌝ }
     requires generator { ⌜ Within arithmetic comparison (now ring) (view (now generator)) ⌝ }
     requires few { ⌜ length (now generator) ≤ 512 ⌝ }
@@ -69,7 +83,10 @@ fn add_terms<F: Field, O: MonomialOrder>(ring: &Ring<F, O>, number: usize, cofac
     ensures within { λ r. ⌜ Within arithmetic comparison (now (ring .entry)) (view (vec-items (now (sum .exit) .sum .terms))) ⌝ }
 {
     for (term, factor) in cofactor.iter().enumerate() {
-        in_work(Work::CofactorTerm(number, term), sum.add(ring, 0, factor, generator))?;
+        in_work(
+            Work::CofactorTerm(number, term),
+            sum.add(ring, 0, factor, generator),
+        )?;
     }
     Ok(())
 }
@@ -77,7 +94,8 @@ fn add_terms<F: Field, O: MonomialOrder>(ring: &Ring<F, O>, number: usize, cofac
 // How many terms the cofactors have together.
 fn count_terms(counts: &[u16]) -> usize
     requires { ⌜ length (now counts) ≤ 32 ⌝ }
-    ensures { λ r. ⌜ r ≡ total (now (counts .entry)) ⌝ }
+    ensures value { λ r. ⌜ r ≡ total (now (counts .entry)) ⌝ }
+    ensures bound { λ r. ⌜ r ≤ 65535 * 32 ⌝ }
 {
     let mut total = 0;
     for count in counts {
@@ -87,7 +105,11 @@ fn count_terms(counts: &[u16]) -> usize
 }
 
 // Whether the table has just the numbers that these counts ask for.
-pub(crate) fn is_whole<F: Field, O: MonomialOrder>(ring: &Ring<F, O>, counts: &[u16], table: &[u16]) -> bool
+pub(crate) fn is_whole<F: Field, O: MonomialOrder>(
+    ring: &Ring<F, O>,
+    counts: &[u16],
+    table: &[u16],
+) -> bool
     requires { ⌜ length (now counts) ≤ 32 ⌝ }
     ensures { λ r. ⌜ r ≡ eqb (length (now (table .entry))) (total (now (counts .entry)) * suc (now (ring .entry) .variables)) ⌝ }
 {
@@ -95,22 +117,34 @@ pub(crate) fn is_whole<F: Field, O: MonomialOrder>(ring: &Ring<F, O>, counts: &[
 }
 
 // Whether each cofactor's part of the table reads, from the first on.
-pub(crate) fn check_cofactors<F: Field, O: MonomialOrder>(ring: &Ring<F, O>, counts: &[u16], table: &[u16], scratch: &mut Polynomial) -> Result<(), TableFault>
+pub(crate) fn check_cofactors<F: Field, O: MonomialOrder>(
+    ring: &Ring<F, O>,
+    counts: &[u16],
+    table: &[u16],
+    scratch: &mut Polynomial,
+) -> Result<(), TableFault>
     requires whole { ⌜ length (now table) ≡ total (now counts) * suc (now ring .variables) ⌝ }
     ensures { λ r. ⌜ r ≡ forgotten (read-cofactors (arithmetic (now (ring .entry) .field)) (now (ring .entry) .variables) (comparison (now (ring .entry) .order)) 0 (cut (sizes (now (ring .entry) .variables) (now (counts .entry))) (now (table .entry)))) ⌝ }
 {
     let stride = ring.variables() + 1;
-    let mut rest = table;
+    let mut unread = table;
     for (number, count) in counts.iter().enumerate() {
-        let (part, later) = rest.split_at(usize::from(*count) * stride);
+        let (part, later) = unread.split_at(usize::from(*count) * stride);
         read_cofactor(ring, number, part, scratch)?;
-        rest = later;
+        unread = later;
     }
     Ok(())
 }
 
 // Adds the product of one cofactor, from its part of the table, and its generator.
-fn add_cofactor<F: Field, O: MonomialOrder>(ring: &Ring<F, O>, generators: &PolynomialList, number: usize, part: &[u16], scratch: &mut Polynomial, sum: &mut Accumulator) -> Result<(), Fault>
+fn add_cofactor<F: Field, O: MonomialOrder>(
+    ring: &Ring<F, O>,
+    generators: &PolynomialList,
+    number: usize,
+    part: &[u16],
+    scratch: &mut Polynomial,
+    sum: &mut Accumulator,
+) -> Result<(), Fault>
     requires known { ⌜ number < length (polynomials (now generators)) ⌝ }
     requires generators { ⌜ Each (Within arithmetic comparison (now ring)) (polynomials (now generators)) ⌝ }
     requires sum { ⌜ Within arithmetic comparison (now ring) (view (vec-items (now sum .sum .terms))) ⌝ }
@@ -126,7 +160,14 @@ fn add_cofactor<F: Field, O: MonomialOrder>(ring: &Ring<F, O>, generators: &Poly
 }
 
 // The sum of all cofactors, each from its part of the table, times their generators, from 0.
-pub(crate) fn add_cofactors<F: Field, O: MonomialOrder>(ring: &Ring<F, O>, generators: &PolynomialList, counts: &[u16], table: &[u16], scratch: &mut Polynomial, sum: &mut Accumulator) -> Result<(), Fault>
+pub(crate) fn add_cofactors<F: Field, O: MonomialOrder>(
+    ring: &Ring<F, O>,
+    generators: &PolynomialList,
+    counts: &[u16],
+    table: &[u16],
+    scratch: &mut Polynomial,
+    sum: &mut Accumulator,
+) -> Result<(), Fault>
     requires whole { ⌜ length (now table) ≡ total (now counts) * suc (now ring .variables) ⌝ }
     requires counted { ⌜ length (now counts) ≡ length (polynomials (now generators)) ⌝ }
     requires checked { ⌜ forgotten (read-cofactors (arithmetic (now ring .field)) (now ring .variables) (comparison (now ring .order)) 0 (cut (sizes (now ring .variables) (now counts)) (now table))) ≡ Ok tt ⌝ }

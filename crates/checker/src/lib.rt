@@ -6,4 +6,4 @@ mod checker;
 
 pub use checker::Checker;
 pub use fault::{ArithmeticFault, Fault, FaultFromArithmetic, FaultFromField, FaultFromTable, Place, TableFault, Work};
-pub use numbers::FaultNumbers;
+pub use numbers::{FaultNumbers, FaultNumbersDebug, FaultNumbersPartialEq};
