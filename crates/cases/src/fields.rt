@@ -2,13 +2,14 @@
 use field::BinaryArithmetic;
 use field::BinaryField;
 use field::Field;
+use field::FieldFaultDebug;
 use field::PrimeArithmetic;
 use field::PrimeField;
 use std::test::*;
 
 #[test]
 fn residues_of_7() -> Result<(), Fail> {
-    let f = PrimeField::new(7).ok().ok_or("7 is listed")?;
+    let f = PrimeField::new(7)?;
     check_eq(f.size(), 7)?;
     check_eq(f.sum(5, 4), Some(2))?;
     check_eq(f.opposite(2), Some(5))?;
@@ -21,7 +22,7 @@ fn residues_of_7() -> Result<(), Fail> {
 
 #[test]
 fn sixteen_codes() -> Result<(), Fail> {
-    let f = BinaryField::new(16).ok().ok_or("16 is listed")?;
+    let f = BinaryField::new(16)?;
     check_eq(f.size(), 16)?;
     check_eq(f.sum(12, 10), Some(6))?;
     check_eq(f.opposite(9), Some(9))?;
@@ -34,10 +35,10 @@ fn sixteen_codes() -> Result<(), Fail> {
 
 #[test]
 fn four_and_eight_codes() -> Result<(), Fail> {
-    let four = BinaryField::new(4).ok().ok_or("4 is listed")?;
+    let four = BinaryField::new(4)?;
     check_eq(four.product(3, 3), Some(2))?;
     check_eq(four.inverse(2), Some(3))?;
-    let eight = BinaryField::new(8).ok().ok_or("8 is listed")?;
+    let eight = BinaryField::new(8)?;
     check_eq(eight.product(7, 7), Some(3))?;
     check_eq(eight.inverse(6), Some(3))
 }

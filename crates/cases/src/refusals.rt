@@ -5,6 +5,7 @@ use checker::FaultNumbers;
 use checker::FaultNumbersDebug;
 use checker::FaultNumbersPartialEq;
 use field::FieldFault;
+use field::FieldFaultDebug;
 use field::PrimeArithmetic;
 use field::PrimeField;
 use order::Lex;
@@ -24,7 +25,7 @@ fn numbers(answer: Result<(), Fault>) -> Option<FaultNumbers> {
 
 #[test]
 fn tables(rt: LibcRuntime) -> Result<(), Fail> {
-    let field = PrimeField::new(7).ok().ok_or("7 is listed")?;
+    let field = PrimeField::new(7)?;
     let mut checker = Checker::new(rt.alloc(), field, Lex)?;
     check_eq(numbers(checker.add_generator(&[1, 1, 5])), five(4, 2, 1, 0, 0))?;
     check_eq(numbers(checker.add_generator(&[1; 66])), five(5, 2, 1, 0, 0))?;
@@ -37,7 +38,7 @@ fn tables(rt: LibcRuntime) -> Result<(), Fail> {
 
 #[test]
 fn elements(rt: LibcRuntime) -> Result<(), Fail> {
-    let field = PrimeField::new(7).ok().ok_or("7 is listed")?;
+    let field = PrimeField::new(7)?;
     let mut checker = Checker::new(rt.alloc(), field, Lex)?;
     check_eq(numbers(checker.add_generator(&[1, 1, 5, 0])), None)?;
     check_eq(numbers(checker.check_element(3, &[1], &[], &[])), five(4, 2, 2, 3, 0))?;

@@ -5,7 +5,7 @@ use mathlib.Core.List.{List, [], _∷_, _++_, append-assoc}
 use Prim.Native.Nat.{ℕ, zero, suc, _+_, _-_, _<_, _≤_}
 use native.Mathlib.Omega.{arith}
 use lib.Dec.{leb}
-use lib.ListN.{length, drop, length-append}
+use lib.ListN.{length, drop, getD, length-append}
 use Rattle.std.proofs.shelf.Tests.{le-leb, lt-leb}
 use Rattle.std.specs.declared.result.Result.{Result}
 use Rattle.std.specs.declared.result.Result.the-variants.{Ok, Err}
@@ -14,6 +14,7 @@ use Rattle.order.specs.Monomials.{multiply, small}
 use Rattle.order.specs.Orders.{Compare, OrderLaws}
 use Rattle.ideal.specs.Polynomials.{Operations, Term as Written, sum, multiple}
 use Rattle.ideal.specs.Rings.{Raw, ring, Polynomial}
+use Rattle.ideal.specs.Algebra.{NonzeroTerm}
 use Rattle.ideal.proofs.Carried as carried
 use Rattle.polynomial.specs.Limits.{all-small, tight, bounded, step}
 use Rattle.polynomial.specs.Results.{_>>=_, _>>_, check}
@@ -22,6 +23,7 @@ use Rattle.polynomial.specs.declared.flaw.Limit.{Limit}
 use Rattle.polynomial.specs.declared.flaw.Limit.the-variants.{Exponent, Terms}
 use Rattle.polynomial.specs.declared.term.Term.{Term}
 use Rattle.polynomial.proofs.Outcomes.{checked, bound}
+use Rattle.polynomial.proofs.Viewing.{view-at}
 
 -- what comes behind what is written
 abbrev pub behind : Raw → Result Raw Limit → Result Raw Limit
@@ -79,3 +81,7 @@ pub step-sum : (o : Operations ℕ (List ℕ)) (b : ℕ) (t : Written ℕ (List 
 step-sum o b t p f s e =
     let (m, d, e1) = bound (tight (multiple o t p)) (λ m. bounded (512 - b) (sum o m f)) s e in
     bounded-is (512 - b) (sum o m f) s (sym e1) ∙ ap (λ m. sum o m f) (tight-is (multiple o t p) m (sym d))
+
+-- a term of a polynomial can multiply one
+pub factor-at : {k : Arithmetic} (F : FieldLaws k) {n : ℕ} {cmp : Compare} (O : OrderLaws n cmp) (i : ℕ) (ts : List Term) (x : Term) → i < length ts → x ≡ getD ts i x → Polynomial k n cmp (view ts) → NonzeroTerm k n (term-of x)
+factor-at {k = k} F {n = n} {cmp = cmp} O i ts x h e ok = carried.uncons F O (term-of x) (view (drop (i + 1) ts)) (subst (Polynomial k n cmp) (view-at i ts x h e) (within-drop F O i ts ok)) .0

@@ -1,19 +1,15 @@
 -- One term more is added, or the sum stops there.
-use mathlib.Core.Path.{_≡_, sym, ap, subst, _∙_}
-use Prim.Native.Nat.{_+_}
-use lib.ListN.{drop}
+use mathlib.Core.Path.{_≡_, sym, ap, _∙_}
 use Rattle.std.specs.Of.Vec.{vec-items}
 use Rattle.std.specs.declared.result.Result.{Result}
 use Rattle.std.specs.declared.result.Result.the-variants.{Ok, Err}
 use Rattle.std.proofs.shelf.Lists.{drop-all}
 use Rattle.std.proofs.shelf.Results.{err-from-errBy}
-use Rattle.ideal.specs.Rings.{Raw, ring, Polynomial}
-use Rattle.ideal.proofs.Carried as carried
+use Rattle.ideal.specs.Rings.{Raw, ring}
 use Rattle.polynomial.specs.Results.{answered}
 use Rattle.polynomial.specs.Rings.{over}
-use Rattle.polynomial.specs.Views.{term-of, view}
-use Rattle.polynomial.proofs.Steps.{within-drop}
-use Rattle.polynomial.proofs.Viewing.{view-at}
+use Rattle.polynomial.specs.Views.{view}
+use Rattle.polynomial.proofs.Steps.{factor-at}
 use Rattle.checker.specs.Combinations.{add-terms}
 use Rattle.checker.specs.declared.fault.ArithmeticFault.{ArithmeticFault}
 use Rattle.checker.proofs.Adding.{add-term}
@@ -29,11 +25,12 @@ add-requires g c κs =
     let cmp = g .O·MonomialOrder .comparison (c .args .ring .now .order) in
     let F = g .F·Field·met .lawful (c .args .ring .now .field) in
     let O = g .O·MonomialOrder·met .lawful (c .args .ring .now .order) n in
-    let i = c .loop-term .term in
-    let a = c .args .cofactor .now in
-    let x = c .index-cofactor-term .result in
-    let here = subst (Polynomial k n cmp) (view-at i a x (c .loop-term-test .taken) (c .index-cofactor-term .is)) (within-drop {k = k} F {n = n} {cmp = cmp} O i a (c .pre .cofactor)) in
-    record { factor = carried.uncons {k = k} F {n = n} {cmp = cmp} O (term-of x) (view (drop (i + 1) a)) here .0; within = c .pre .generator; few = c .pre .few; sum = c .loop-term .inv .0 }
+    record {
+      factor = factor-at {k = k} F {n = n} {cmp = cmp} O (c .loop-term .term) (c .args .cofactor .now) (c .index-cofactor-term .result) (c .loop-term-test .taken) (c .index-cofactor-term .is) (c .pre .cofactor);
+      within = c .pre .generator;
+      few = c .pre .few;
+      sum = c .loop-term .inv .0;
+    }
 
 pub returns-in-Break-in-work : need.returns-in-Break-in-work
 returns-in-Break-in-work g c =
