@@ -5,6 +5,7 @@ mod walk;
 
 use std::error::AnyError;
 use walk::check_and_tell;
+use walk::Sheet;
 
 // Residues modulo 7, one variable: the generators a³ + 6a² + 5a and a² + 4a + 2, and the element a + 5.
 const FIRST_GENERATOR: [u16; 6] = [1, 3, 6, 2, 5, 1];
@@ -18,12 +19,24 @@ const COUNTS: [u16; 2] = [1, 2];
 // The same with 3a + 5.
 const DAMAGED_COFACTORS: [u16; 6] = [4, 0, 3, 1, 5, 0];
 
+fn tables<'a>(cofactors: &'a [u16; 6]) -> Sheet<'a> {
+    Sheet {
+        first_generator: &FIRST_GENERATOR,
+        second_generator: &SECOND_GENERATOR,
+        element: &ELEMENT,
+        first_cofactor: &cofactors[0..2],
+        second_cofactor: &cofactors[2..6],
+        cofactors,
+        counts: &COUNTS,
+    }
+}
+
 fn run(rt: &LibcRuntime) -> Result<(), AnyError> {
-    rt.println("The element as it was written:")?;
-    check_and_tell(rt, &FIRST_GENERATOR, &SECOND_GENERATOR, &ELEMENT, &COFACTORS, &COUNTS)?;
+    rt.println("The element as the office's program wrote it")?;
+    check_and_tell(rt, &tables(&COFACTORS))?;
     rt.println("")?;
-    rt.println("The same with one cofactor damaged:")?;
-    check_and_tell(rt, &FIRST_GENERATOR, &SECOND_GENERATOR, &ELEMENT, &DAMAGED_COFACTORS, &COUNTS)
+    rt.println("The same with one cofactor damaged")?;
+    check_and_tell(rt, &tables(&DAMAGED_COFACTORS))
 }
 
 fn main(rt: LibcRuntime) -> Result<(), AnyError> {
