@@ -14,10 +14,22 @@ use std::test::*;
 fn textbook_monomials() -> Result<(), Fail> {
     check_eq(Lex.compare(&[1, 0, 0], &[0, 5, 3]), Some(Ordering::Greater))?;
     check_eq(Graded.compare(&[1, 0, 0], &[0, 5, 3]), Some(Ordering::Less))?;
-    check_eq(Reverse.compare(&[1, 0, 0], &[0, 5, 3]), Some(Ordering::Less))?;
-    check_eq(Graded.compare(&[2, 0, 2], &[1, 2, 1]), Some(Ordering::Greater))?;
-    check_eq(Reverse.compare(&[2, 0, 2], &[1, 2, 1]), Some(Ordering::Less))?;
-    check_eq(Reverse.compare(&[1, 0, 1], &[0, 2, 0]), Some(Ordering::Less))
+    check_eq(
+        Reverse.compare(&[1, 0, 0], &[0, 5, 3]),
+        Some(Ordering::Less),
+    )?;
+    check_eq(
+        Graded.compare(&[2, 0, 2], &[1, 2, 1]),
+        Some(Ordering::Greater),
+    )?;
+    check_eq(
+        Reverse.compare(&[2, 0, 2], &[1, 2, 1]),
+        Some(Ordering::Less),
+    )?;
+    check_eq(
+        Reverse.compare(&[1, 0, 1], &[0, 2, 0]),
+        Some(Ordering::Less),
+    )
 }
 
 #[test]

@@ -12,8 +12,20 @@ use order::Lex;
 use order::LexOrder;
 use std::test::*;
 
-fn five(refusal: u16, layer: u16, subject: u16, first: usize, second: usize) -> Option<FaultNumbers> {
-    Some(FaultNumbers { refusal, layer, subject, first, second })
+fn five(
+    refusal: u16,
+    layer: u16,
+    subject: u16,
+    first: usize,
+    second: usize,
+) -> Option<FaultNumbers> {
+    Some(FaultNumbers {
+        refusal,
+        layer,
+        subject,
+        first,
+        second,
+    })
 }
 
 fn numbers(answer: Result<(), Fault>) -> Option<FaultNumbers> {
@@ -27,12 +39,30 @@ fn numbers(answer: Result<(), Fault>) -> Option<FaultNumbers> {
 fn tables(rt: LibcRuntime) -> Result<(), Fail> {
     let field = PrimeField::new(7)?;
     let mut checker = Checker::new(rt.alloc(), field, Lex)?;
-    check_eq(numbers(checker.add_generator(&[1, 1, 5])), five(4, 2, 1, 0, 0))?;
-    check_eq(numbers(checker.add_generator(&[1; 66])), five(5, 2, 1, 0, 0))?;
-    check_eq(numbers(checker.add_generator(&[0, 300])), five(6, 2, 1, 0, 0))?;
-    check_eq(numbers(checker.add_generator(&[1, 2, 7, 1])), five(6, 2, 1, 0, 1))?;
-    check_eq(numbers(checker.add_generator(&[1, 256])), five(7, 2, 1, 0, 0))?;
-    check_eq(numbers(checker.add_generator(&[1, 255, 1, 255])), five(8, 2, 1, 0, 1))?;
+    check_eq(
+        numbers(checker.add_generator(&[1, 1, 5])),
+        five(4, 2, 1, 0, 0),
+    )?;
+    check_eq(
+        numbers(checker.add_generator(&[1; 66])),
+        five(5, 2, 1, 0, 0),
+    )?;
+    check_eq(
+        numbers(checker.add_generator(&[0, 300])),
+        five(6, 2, 1, 0, 0),
+    )?;
+    check_eq(
+        numbers(checker.add_generator(&[1, 2, 7, 1])),
+        five(6, 2, 1, 0, 1),
+    )?;
+    check_eq(
+        numbers(checker.add_generator(&[1, 256])),
+        five(7, 2, 1, 0, 0),
+    )?;
+    check_eq(
+        numbers(checker.add_generator(&[1, 255, 1, 255])),
+        five(8, 2, 1, 0, 1),
+    )?;
     check_eq(numbers(checker.add_generator(&[])), None)
 }
 
@@ -41,17 +71,44 @@ fn elements(rt: LibcRuntime) -> Result<(), Fail> {
     let field = PrimeField::new(7)?;
     let mut checker = Checker::new(rt.alloc(), field, Lex)?;
     check_eq(numbers(checker.add_generator(&[1, 1, 5, 0])), None)?;
-    check_eq(numbers(checker.check_element(3, &[1], &[], &[])), five(4, 2, 2, 3, 0))?;
-    check_eq(numbers(checker.check_element(3, &[], &[], &[])), five(9, 2, 2, 3, 0))?;
-    check_eq(numbers(checker.check_element(3, &[1, 0], &[], &[])), five(10, 2, 0, 0, 0))?;
-    check_eq(numbers(checker.check_element(3, &[1, 0], &[1, 0, 1], &[1])), five(4, 2, 3, 0, 0))?;
-    check_eq(numbers(checker.check_element(3, &[1, 0], &[1, 1, 8, 0], &[2])), five(6, 2, 3, 0, 1))?;
-    check_eq(numbers(checker.check_element(3, &[1, 0], &[1, 255], &[1])), five(11, 3, 3, 0, 0))?;
-    check_eq(numbers(checker.check_element(3, &[1, 0], &[1, 0], &[1])), five(13, 4, 2, 3, 0))?;
-    check_eq(numbers(checker.check_element(3, &[1, 1, 5, 0], &[1, 0], &[1])), None)
+    check_eq(
+        numbers(checker.check_element(3, &[1], &[], &[])),
+        five(4, 2, 2, 3, 0),
+    )?;
+    check_eq(
+        numbers(checker.check_element(3, &[], &[], &[])),
+        five(9, 2, 2, 3, 0),
+    )?;
+    check_eq(
+        numbers(checker.check_element(3, &[1, 0], &[], &[])),
+        five(10, 2, 0, 0, 0),
+    )?;
+    check_eq(
+        numbers(checker.check_element(3, &[1, 0], &[1, 0, 1], &[1])),
+        five(4, 2, 3, 0, 0),
+    )?;
+    check_eq(
+        numbers(checker.check_element(3, &[1, 0], &[1, 1, 8, 0], &[2])),
+        five(6, 2, 3, 0, 1),
+    )?;
+    check_eq(
+        numbers(checker.check_element(3, &[1, 0], &[1, 255], &[1])),
+        five(11, 3, 3, 0, 0),
+    )?;
+    check_eq(
+        numbers(checker.check_element(3, &[1, 0], &[1, 0], &[1])),
+        five(13, 4, 2, 3, 0),
+    )?;
+    check_eq(
+        numbers(checker.check_element(3, &[1, 1, 5, 0], &[1, 0], &[1])),
+        None,
+    )
 }
 
 #[test]
 fn fields() -> Result<(), Fail> {
-    check_eq(Some(Fault::Field(FieldFault::UnlistedSize).numbers()), five(17, 1, 0, 0, 0))
+    check_eq(
+        Some(Fault::Field(FieldFault::UnlistedSize).numbers()),
+        five(17, 1, 0, 0, 0),
+    )
 }

@@ -30,7 +30,12 @@ enum Step {
 }
 
 // Adds the leading term of `factor` times p in one step: how many terms the sum has then, or the limit met.
-fn add_leading<F: Field, O: MonomialOrder>(ring: &Ring<F, O>, factor: &[Term], p: &[Term], sum: &mut Accumulator) -> Step
+fn add_leading<F: Field, O: MonomialOrder>(
+    ring: &Ring<F, O>,
+    factor: &[Term],
+    p: &[Term],
+    sum: &mut Accumulator,
+) -> Step
     requires factor { ⌜ Within arithmetic comparison (now ring) (view (now factor)) ⌝ }
     requires within { ⌜ Within arithmetic comparison (now ring) (view (now p)) ⌝ }
     requires few { ⌜ length (now p) ≤ 512 ⌝ }
@@ -48,7 +53,13 @@ fn add_leading<F: Field, O: MonomialOrder>(ring: &Ring<F, O>, factor: &[Term], p
 }
 
 // Reads two tables, and adds the product of the first one's leading term and the second.
-fn read_and_step<F: Field, O: MonomialOrder>(ring: &Ring<F, O>, heap: Global, factor: &[u16], table: &[u16], sum: &mut Accumulator) -> Result<Step, AllocError>
+fn read_and_step<F: Field, O: MonomialOrder>(
+    ring: &Ring<F, O>,
+    heap: Global,
+    factor: &[u16],
+    table: &[u16],
+    sum: &mut Accumulator,
+) -> Result<Step, AllocError>
     requires sum { ⌜ Within arithmetic comparison (now ring) (view (vec-items (now sum .sum .terms))) ⌝ }
     ensures { λ r. ⌜ Within arithmetic comparison (now (ring .entry)) (view (vec-items (now (sum .exit) .sum .terms))) ⌝ }
 {
@@ -78,9 +89,18 @@ fn long_table(heap: Global) -> Result<Vec<u16>, AllocError> {
 fn exponents_up_to_255(rt: LibcRuntime) -> Result<(), Fail> {
     let ring = Ring::new(PrimeField::new(7)?, Lex);
     let mut sum = Accumulator::new(rt.alloc())?;
-    check_eq(read_and_step(&ring, rt.alloc(), &[1, 1], &[1, 254], &mut sum)?, Step::Done(1))?;
-    check_eq(read_and_step(&ring, rt.alloc(), &[1, 1], &[1, 255], &mut sum)?, Step::Exponent)?;
-    check_eq(read_and_step(&ring, rt.alloc(), &[1, 1], &[], &mut sum)?, Step::Done(1))
+    check_eq(
+        read_and_step(&ring, rt.alloc(), &[1, 1], &[1, 254], &mut sum)?,
+        Step::Done(1),
+    )?;
+    check_eq(
+        read_and_step(&ring, rt.alloc(), &[1, 1], &[1, 255], &mut sum)?,
+        Step::Exponent,
+    )?;
+    check_eq(
+        read_and_step(&ring, rt.alloc(), &[1, 1], &[], &mut sum)?,
+        Step::Done(1),
+    )
 }
 
 #[test]
@@ -89,8 +109,20 @@ fn terms_up_to_512(rt: LibcRuntime) -> Result<(), Fail> {
     check(ring.set_variables(2))?;
     let mut sum = Accumulator::new(rt.alloc())?;
     let long = long_table(rt.alloc())?;
-    check_eq(read_and_step(&ring, rt.alloc(), &[1, 0, 0], long.as_slice(), &mut sum)?, Step::Done(512))?;
-    check_eq(read_and_step(&ring, rt.alloc(), &[1, 0, 0], &[1, 2, 0], &mut sum)?, Step::Terms)?;
-    check_eq(read_and_step(&ring, rt.alloc(), &[6, 0, 0], &[1, 0, 255], &mut sum)?, Step::Done(511))?;
-    check_eq(read_and_step(&ring, rt.alloc(), &[1, 0, 0], &[1, 2, 0], &mut sum)?, Step::Done(512))
+    check_eq(
+        read_and_step(&ring, rt.alloc(), &[1, 0, 0], long.as_slice(), &mut sum)?,
+        Step::Done(512),
+    )?;
+    check_eq(
+        read_and_step(&ring, rt.alloc(), &[1, 0, 0], &[1, 2, 0], &mut sum)?,
+        Step::Terms,
+    )?;
+    check_eq(
+        read_and_step(&ring, rt.alloc(), &[6, 0, 0], &[1, 0, 255], &mut sum)?,
+        Step::Done(511),
+    )?;
+    check_eq(
+        read_and_step(&ring, rt.alloc(), &[1, 0, 0], &[1, 2, 0], &mut sum)?,
+        Step::Done(512),
+    )
 }

@@ -33,7 +33,7 @@ each-push P (y ∷ xs) x (q, e) p = (q, each-push P xs x e p)
 
 module _ (k : Arithmetic) (n : ℕ) (cmp : Compare) where
   pub generator-read : (generators : List Raw) (table : List ℕ) (r : Result Raw Flaw) → length generators < 32 → r ≡ read k n cmp 32 table
-    → (because Table (because (Flawed (Generator (length generators))) r) >>= (λ p. Ok (generators ++ (p ∷ [])))) ≡ add-generator k n cmp generators table
+      → (because Table (because (Flawed (Generator (length generators))) r) >>= (λ p. Ok (generators ++ (p ∷ [])))) ≡ add-generator k n cmp generators table
   generator-read generators table r h e =
       ap (λ x. because Table (because (Flawed (Generator (length generators))) x) >>= (λ p. Ok (generators ++ (p ∷ [])))) e
       ∙ ap (λ b. check b Full >> (because Table (because (Flawed (Generator (length generators))) (read k n cmp 32 table)) >>= (λ p. Ok (generators ++ (p ∷ []))))) (sym (lt-ltb (length generators) 32 h))
@@ -44,16 +44,16 @@ module _ (k : Arithmetic) (n : ℕ) (cmp : Compare) where
 
     -- a check of an element whose table reads, by the answers of its parts
     pub examined : (p : Raw) → Ok p ≡ read k n cmp 32 table → (some same whole : Bool) (sum : Result Raw Fault) → has-term p ≡ some → eqb (length counts) (length generators) ≡ same
-      → eqb (length cofactor-table) (total counts * suc n) ≡ whole → sum-cofactors k n cmp parts generators ≡ sum
-      → check-element k n cmp generators number table cofactor-table counts
+        → eqb (length cofactor-table) (total counts * suc n) ≡ whole → sum-cofactors k n cmp parts generators ≡ sum
+        → check-element k n cmp generators number table cofactor-table counts
         ≡ (check some (Table (NoTerm number)) >> (check same (Table CofactorCount) >> (check whole (Table (Flawed (Cofactor 0) Length)) >> (sum >>= (λ s. check (equal s p) (NotTheSum number) >> Ok p)))))
     examined p e some same whole sum a b c d =
         let last : Result Raw Fault → Result Raw Fault = λ sum. sum >>= (λ s. check (equal s p) (NotTheSum number) >> Ok p) in
         let next : Bool → Bool → Bool → Result Raw Fault → Result Raw Fault = λ some same whole sum.
-            check some (Table (NoTerm number)) >> (check same (Table CofactorCount) >> (check whole (Table (Flawed (Cofactor 0) Length)) >> last sum)) in
+        check some (Table (NoTerm number)) >> (check same (Table CofactorCount) >> (check whole (Table (Flawed (Cofactor 0) Length)) >> last sum)) in
         ap (λ (r : Result Raw Flaw). because Table (because (Flawed (Element number)) r) >>= (λ p. check (has-term p) (Table (NoTerm number))
-            >> (check (eqb (length counts) (length generators)) (Table CofactorCount) >> (check (eqb (length cofactor-table) (total counts * suc n)) (Table (Flawed (Cofactor 0) Length))
-            >> (sum-cofactors k n cmp parts generators >>= (λ s. check (equal s p) (NotTheSum number) >> Ok p)))))) (sym e)
+        >> (check (eqb (length counts) (length generators)) (Table CofactorCount) >> (check (eqb (length cofactor-table) (total counts * suc n)) (Table (Flawed (Cofactor 0) Length))
+        >> (sum-cofactors k n cmp parts generators >>= (λ s. check (equal s p) (NotTheSum number) >> Ok p)))))) (sym e)
         ∙ ap₂ (λ x y. next x y (eqb (length cofactor-table) (total counts * suc n)) (sum-cofactors k n cmp parts generators)) a b ∙ ap₂ (next some same) c d
 
     -- a cofactor that does not read ends the sum

@@ -75,7 +75,7 @@ module _ (k : Arithmetic) (F : FieldLaws k) (n : ℕ) (cmp : Compare) (O : Order
       let (good, l) = cofactors-good (suc i) parts rest d1 in
       let is : a ∷ rest ≡ cofactors = cc in
       subst (λ cofactors. Each (Polynomial k n cmp) cofactors × (length cofactors ≡ suc (length parts))) is
-        ((read-good k n cmp O 32 part a (because-ok (Flawed (Cofactor i)) (read k n cmp 32 part) a (sym d)), good), ap suc l)
+      ((read-good k n cmp O 32 part a (because-ok (Flawed (Cofactor i)) (read k n cmp 32 part) a (sym d)), good), ap suc l)
 
   module _ (generators : List Raw) (ok : Each (Polynomial k n cmp) generators) (number : ℕ) (table cofactor-table counts : List ℕ) where
     abbrev parts : List (List ℕ)
@@ -117,8 +117,12 @@ module _ (k : Arithmetic) (F : FieldLaws k) (n : ℕ) (cmp : Compare) (O : Order
         let r = read-of p e in
         record {
           cofactors = xs;
-          all = record { element = r; parts = a1; polynomials = (read-good k n cmp O 32 table p r, good);
-            counted = l ∙ cut-length (sizes n counts) cofactor-table ∙ map-length (λ c. c * suc n) counts ∙ eqb-true (length counts) (length generators) c };
+          all = record {
+            element = r;
+            parts = a1;
+            polynomials = (read-good k n cmp O 32 table p r, good);
+            counted = l ∙ cut-length (sizes n counts) cofactor-table ∙ map-length (λ c. c * suc n) counts ∙ eqb-true (length counts) (length generators) c;
+          };
           sum = cofactors-added (ring k n cmp) 0 xs generators [] s b1 ∙ carried.stepwise F O xs generators good ok;
         }
 
@@ -184,6 +188,6 @@ module _ (k : Arithmetic) (F : FieldLaws k) (n : ℕ) (cmp : Compare) (O : Order
 
     pub verdict : (r : Result (Unit {0}) Fault) → r ≡ forgotten (check-element k n cmp generators number table cofactor-table counts) → Verdict k n cmp generators number table cofactor-table counts r
     verdict r e = (
-        (λ h. let (q, is) = forgotten-ok (check-element k n cmp generators number table cofactor-table counts) (sym e ∙ h) in passed q is),
-        (λ h. refused (forgotten-err (check-element k n cmp generators number table cofactor-table counts) (NotTheSum number) (sym e ∙ h)))
-      )
+      (λ h. let (q, is) = forgotten-ok (check-element k n cmp generators number table cofactor-table counts) (sym e ∙ h) in passed q is),
+      (λ h. refused (forgotten-err (check-element k n cmp generators number table cofactor-table counts) (NotTheSum number) (sym e ∙ h))),
+    )

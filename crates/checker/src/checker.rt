@@ -16,13 +16,13 @@ use crate::fault::Place;
 use crate::fault::TableFault;
 use field::Field;
 use order::MonomialOrder;
-use polynomial::are_equal;
 use polynomial::Accumulator;
 use polynomial::Flaw;
 use polynomial::Polynomial;
 use polynomial::PolynomialList;
 use polynomial::Ring;
 use polynomial::TableSize;
+use polynomial::are_equal;
 use std::alloc::AllocError;
 use std::alloc::Global;
 
@@ -48,7 +48,13 @@ impl<F: Field + Drop, O: MonomialOrder + Drop> Checker<F, O> {
         let cofactor = Polynomial::new(heap)?;
         let sum = Accumulator::new(heap)?;
         let ring = Ring::new(field, order);
-        Ok(Checker { ring, generators, element, cofactor, sum })
+        Ok(Checker {
+            ring,
+            generators,
+            element,
+            cofactor,
+            sum,
+        })
     }
 
     // One generator more, from its table.
@@ -62,19 +68,31 @@ impl<F: Field + Drop, O: MonomialOrder + Drop> Checker<F, O> {
         if number >= MOST_GENERATORS {
             return Err(Fault::Full);
         }
-        in_table(Place::Generator(number), self.ring.read(TableSize::Short, table, &mut self.element))?;
+        in_table(
+            Place::Generator(number),
+            self.ring.read(TableSize::Short, table, &mut self.element),
+        )?;
         let _ = self.generators.push(self.element.terms());
         Ok(())
     }
 
     // Reads the element and its cofactors, sums, and compares.
-    fn examine(&mut self, number: usize, table: &[u16], cofactors: &[u16], counts: &[u16]) -> Result<(), Fault>
+    fn examine(
+        &mut self,
+        number: usize,
+        table: &[u16],
+        cofactors: &[u16],
+        counts: &[u16],
+    ) -> Result<(), Fault>
         requires standing { ⌜ Standing arithmetic comparison (now self) ⌝ }
         ensures value { λ r. ⌜ r ≡ forgotten (check-element (arithmetic (now (self .entry) .ring .field)) (now (self .entry) .ring .variables) (comparison (now (self .entry) .ring .order)) (polynomials (now (self .entry) .generators)) number (now (table .entry)) (now (cofactors .entry)) (now (counts .entry))) ⌝ }
         ensures ring { λ r. ⌜ now (self .exit) .ring ≡ now (self .entry) .ring ⌝ }
         ensures generators { λ r. ⌜ now (self .exit) .generators ≡ now (self .entry) .generators ⌝ }
     {
-        in_table(Place::Element(number), self.ring.read(TableSize::Short, table, &mut self.element))?;
+        in_table(
+            Place::Element(number),
+            self.ring.read(TableSize::Short, table, &mut self.element),
+        )?;
         if self.element.terms().is_empty() {
             return Err(Fault::Table(TableFault::NoTerm(number)));
         }
@@ -85,7 +103,14 @@ impl<F: Field + Drop, O: MonomialOrder + Drop> Checker<F, O> {
             return Err(Fault::Table(TableFault::Flawed(Place::Cofactor(0), Flaw::Length)));
         }
         check_cofactors(&self.ring, counts, cofactors, &mut self.cofactor)?;
-        add_cofactors(&self.ring, &self.generators, counts, cofactors, &mut self.cofactor, &mut self.sum)?;
+        add_cofactors(
+            &self.ring,
+            &self.generators,
+            counts,
+            cofactors,
+            &mut self.cofactor,
+            &mut self.sum,
+        )?;
         if !are_equal(self.sum.terms(), self.element.terms()) {
             return Err(Fault::NotTheSum(number));
         }
@@ -94,7 +119,13 @@ impl<F: Field + Drop, O: MonomialOrder + Drop> Checker<F, O> {
 
     // Whether the element of that number is the sum of cofactor × generator: its own table, one table with the cofactors,
     // and how many terms each cofactor has.
-    pub fn check_element(&mut self, number: usize, table: &[u16], cofactors: &[u16], counts: &[u16]) -> Result<(), Fault>
+    pub fn check_element(
+        &mut self,
+        number: usize,
+        table: &[u16],
+        cofactors: &[u16],
+        counts: &[u16],
+    ) -> Result<(), Fault>
         requires standing { ⌜ Standing arithmetic comparison (now self) ⌝ }
         ensures standing { λ r. ⌜ Standing arithmetic comparison (now (self .exit)) ⌝ }
         ensures value { λ r. ⌜ r ≡ forgotten (check-element (arithmetic (now (self .entry) .ring .field)) (now (self .entry) .ring .variables) (comparison (now (self .entry) .ring .order)) (polynomials (now (self .entry) .generators)) number (now (table .entry)) (now (cofactors .entry)) (now (counts .entry))) ⌝ }

@@ -1,9 +1,18 @@
 // Checks that an offered basis element is the stated combination of the generators.
+mod checker;
+mod combination;
 mod fault;
 mod numbers;
-mod combination;
-mod checker;
 
 pub use checker::Checker;
-pub use fault::{ArithmeticFault, Fault, FaultFromArithmetic, FaultFromField, FaultFromTable, Place, TableFault, Work};
-pub use numbers::{FaultNumbers, FaultNumbersDebug, FaultNumbersPartialEq};
+pub use fault::ArithmeticFault;
+pub use fault::Fault;
+pub use fault::FaultFromArithmetic;
+pub use fault::FaultFromField;
+pub use fault::FaultFromTable;
+pub use fault::Place;
+pub use fault::TableFault;
+pub use fault::Work;
+pub use numbers::FaultNumbers;
+pub use numbers::FaultNumbersDebug;
+pub use numbers::FaultNumbersPartialEq;

@@ -29,7 +29,13 @@ fn of_flaw(subject: u16, first: usize, flaw: Flaw) -> FaultNumbers
         Flaw::Exponent(term) => (7, term),
         Flaw::Order(term) => (8, term),
     };
-    FaultNumbers { refusal, layer: 2, subject, first, second }
+    FaultNumbers {
+        refusal,
+        layer: 2,
+        subject,
+        first,
+        second,
+    }
 }
 
 impl TableFault {
@@ -40,8 +46,20 @@ impl TableFault {
             TableFault::Flawed(Place::Generator(number), flaw) => of_flaw(1, number, flaw),
             TableFault::Flawed(Place::Element(number), flaw) => of_flaw(2, number, flaw),
             TableFault::Flawed(Place::Cofactor(number), flaw) => of_flaw(3, number, flaw),
-            TableFault::NoTerm(number) => FaultNumbers { refusal: 9, layer: 2, subject: 2, first: number, second: 0 },
-            TableFault::CofactorCount => FaultNumbers { refusal: 10, layer: 2, subject: 0, first: 0, second: 0 },
+            TableFault::NoTerm(number) => FaultNumbers {
+                refusal: 9,
+                layer: 2,
+                subject: 2,
+                first: number,
+                second: 0,
+            },
+            TableFault::CofactorCount => FaultNumbers {
+                refusal: 10,
+                layer: 2,
+                subject: 0,
+                first: 0,
+                second: 0,
+            },
         }
     }
 }
@@ -55,7 +73,13 @@ impl ArithmeticFault {
             Limit::Terms => 12,
         };
         match self.work {
-            Work::CofactorTerm(first, second) => FaultNumbers { refusal, layer: 3, subject: 3, first, second },
+            Work::CofactorTerm(first, second) => FaultNumbers {
+                refusal,
+                layer: 3,
+                subject: 3,
+                first,
+                second,
+            },
         }
     }
 }
@@ -65,11 +89,29 @@ impl Fault {
         ensures { λ r. ⌜ r ≡ numbers (now (self .entry)) ⌝ }
     {
         match self {
-            Fault::Field(FieldFault::UnlistedSize) => FaultNumbers { refusal: 17, layer: 1, subject: 0, first: 0, second: 0 },
-            Fault::Full => FaultNumbers { refusal: 3, layer: 4, subject: 0, first: 0, second: 0 },
+            Fault::Field(FieldFault::UnlistedSize) => FaultNumbers {
+                refusal: 17,
+                layer: 1,
+                subject: 0,
+                first: 0,
+                second: 0,
+            },
+            Fault::Full => FaultNumbers {
+                refusal: 3,
+                layer: 4,
+                subject: 0,
+                first: 0,
+                second: 0,
+            },
             Fault::Table(fault) => fault.numbers(),
             Fault::Arithmetic(fault) => fault.numbers(),
-            Fault::NotTheSum(number) => FaultNumbers { refusal: 13, layer: 4, subject: 2, first: *number, second: 0 },
+            Fault::NotTheSum(number) => FaultNumbers {
+                refusal: 13,
+                layer: 4,
+                subject: 2,
+                first: *number,
+                second: 0,
+            },
         }
     }
 }

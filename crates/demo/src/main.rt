@@ -4,16 +4,19 @@ mod show;
 mod walk;
 
 use std::error::AnyError;
-use walk::check_and_tell;
 use walk::Sheet;
+use walk::check_and_tell;
 
 // Residues modulo 7, one variable: the generators a³ + 6a² + 5a and a² + 4a + 2, and the element a + 5.
 const FIRST_GENERATOR: [u16; 6] = [1, 3, 6, 2, 5, 1];
+
 const SECOND_GENERATOR: [u16; 6] = [1, 2, 4, 1, 2, 0];
+
 const ELEMENT: [u16; 4] = [1, 1, 5, 0];
 
 // The cofactors 4 and 3a + 6, one behind the other, and how many terms each has.
 const COFACTORS: [u16; 6] = [4, 0, 3, 1, 6, 0];
+
 const COUNTS: [u16; 2] = [1, 2];
 
 // The same with 3a + 5.

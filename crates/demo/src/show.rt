@@ -7,7 +7,11 @@ pub struct Shown<'a> {
     pub terms: &'a [Term],
 }
 
-fn show_variable<W: fmt::Write>(f: &mut fmt::Formatter<W>, variable: usize, exponent: u16) -> fmt::Result {
+fn show_variable<W: fmt::Write>(
+    f: &mut fmt::Formatter<W>,
+    variable: usize,
+    exponent: u16,
+) -> fmt::Result {
     let letter = char::from(b'a' + (variable % 26) as u8);
     if exponent == 1 {
         write!(f, "{letter}")

@@ -36,7 +36,13 @@ pub struct Sheet<'a> {
 }
 
 // Reads a polynomial and shows it.
-fn read_and_tell<F: Field, O: MonomialOrder>(rt: &LibcRuntime, ring: &Ring<F, O>, name: &str, table: &[u16], out: &mut Polynomial) -> Result<(), AnyError>
+fn read_and_tell<F: Field, O: MonomialOrder>(
+    rt: &LibcRuntime,
+    ring: &Ring<F, O>,
+    name: &str,
+    table: &[u16],
+    out: &mut Polynomial,
+) -> Result<(), AnyError>
     ensures within { λ r. ⌜ made r (λ _. Within arithmetic comparison (now (ring .entry)) (view (vec-items (now (out .exit) .terms)))) ⌝ }
     ensures few { λ r. ⌜ made r (λ _. length (vec-items (now (out .exit) .terms)) ≤ 32) ⌝ }
 {
@@ -49,7 +55,13 @@ fn read_and_tell<F: Field, O: MonomialOrder>(rt: &LibcRuntime, ring: &Ring<F, O>
 }
 
 // Adds cofactor × generator to the sum, one step for each term of the cofactor.
-fn add_and_tell<F: Field, O: MonomialOrder>(rt: &LibcRuntime, ring: &Ring<F, O>, cofactor: &[Term], generator: &[Term], sum: &mut Accumulator) -> Result<(), AnyError>
+fn add_and_tell<F: Field, O: MonomialOrder>(
+    rt: &LibcRuntime,
+    ring: &Ring<F, O>,
+    cofactor: &[Term],
+    generator: &[Term],
+    sum: &mut Accumulator,
+) -> Result<(), AnyError>
     requires cofactor { ⌜ Within arithmetic comparison (now ring) (view (now cofactor)) ⌝ }
     requires generator { ⌜ Within arithmetic comparison (now ring) (view (now generator)) ⌝ }
     requires few { ⌜ length (now generator) ≤ 512 ⌝ }
@@ -60,7 +72,9 @@ fn add_and_tell<F: Field, O: MonomialOrder>(rt: &LibcRuntime, ring: &Ring<F, O>,
         let Ok(()) = sum.add(ring, 0, &cofactor[i], generator) else {
             return Err("a limit was met".into());
         };
-        let factor = Shown { terms: &cofactor[i..i + 1] };
+        let factor = Shown {
+            terms: &cofactor[i..i + 1],
+        };
         let polynomial = Shown { terms: generator };
         let shown = Shown { terms: sum.terms() };
         println!(rt, "  + {factor} × ({polynomial}): {shown}")?;
@@ -69,7 +83,11 @@ fn add_and_tell<F: Field, O: MonomialOrder>(rt: &LibcRuntime, ring: &Ring<F, O>,
 }
 
 // The sum of cofactor × generator, aloud.
-fn sum_and_tell<F: Field, O: MonomialOrder>(rt: &LibcRuntime, ring: &Ring<F, O>, sheet: &Sheet) -> Result<(), AnyError> {
+fn sum_and_tell<F: Field, O: MonomialOrder>(
+    rt: &LibcRuntime,
+    ring: &Ring<F, O>,
+    sheet: &Sheet,
+) -> Result<(), AnyError> {
     let heap = rt.alloc();
     let mut first = Polynomial::new(heap)?;
     let mut second = Polynomial::new(heap)?;
@@ -79,8 +97,20 @@ fn sum_and_tell<F: Field, O: MonomialOrder>(rt: &LibcRuntime, ring: &Ring<F, O>,
     read_and_tell(rt, ring, "generator 0", sheet.first_generator, &mut first)?;
     read_and_tell(rt, ring, "generator 1", sheet.second_generator, &mut second)?;
     read_and_tell(rt, ring, "element", sheet.element, &mut element)?;
-    read_and_tell(rt, ring, "cofactor 0", sheet.first_cofactor, &mut first_cofactor)?;
-    read_and_tell(rt, ring, "cofactor 1", sheet.second_cofactor, &mut second_cofactor)?;
+    read_and_tell(
+        rt,
+        ring,
+        "cofactor 0",
+        sheet.first_cofactor,
+        &mut first_cofactor,
+    )?;
+    read_and_tell(
+        rt,
+        ring,
+        "cofactor 1",
+        sheet.second_cofactor,
+        &mut second_cofactor,
+    )?;
     rt.println("  sum from 0, after each product:")?;
     let mut sum = Accumulator::new(heap)?;
     add_and_tell(rt, ring, first_cofactor.terms(), first.terms(), &mut sum)?;
@@ -97,7 +127,10 @@ fn tell_verdict(rt: &LibcRuntime, answer: Result<(), Fault>) -> io::Result<()> {
             let subject = n.subject;
             let first = n.first;
             let second = n.second;
-            println!(rt, "  verdict: refused, {refusal} (layer {layer}, subject {subject}, first {first}, second {second})")
+            println!(
+                rt,
+                "  verdict: refused, {refusal} (layer {layer}, subject {subject}, first {first}, second {second})"
+            )
         }
     }
 }
@@ -111,9 +144,14 @@ pub fn check_and_tell(rt: &LibcRuntime, sheet: &Sheet) -> Result<(), AnyError> {
     let ring = Ring::new(field, Lex);
     sum_and_tell(rt, &ring, sheet)?;
     let mut checker = Checker::new(rt.alloc(), field, Lex)?;
-    if checker.add_generator(sheet.first_generator).is_err() || checker.add_generator(sheet.second_generator).is_err() {
+    if checker.add_generator(sheet.first_generator).is_err()
+        || checker.add_generator(sheet.second_generator).is_err()
+    {
         return Err("a generator was refused".into());
     }
-    tell_verdict(rt, checker.check_element(0, sheet.element, sheet.cofactors, sheet.counts))?;
+    tell_verdict(
+        rt,
+        checker.check_element(0, sheet.element, sheet.cofactors, sheet.counts),
+    )?;
     Ok(())
 }

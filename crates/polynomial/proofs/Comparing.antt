@@ -32,9 +32,9 @@ comparable-at a b e =
     let x = exponents-of a in
     let y = exponents-of b in
     and-from (eqb (length x) (length y) && leb (length x) 24 && small x) (small y)
-      (and-from (eqb (length x) (length y) && leb (length x) 24) (small x)
-        (and-from (eqb (length x) (length y)) (leb (length x) 24) (eq-eqb (length x) (length y) (omega arith)) (le-leb (length x) 24 (omega arith))) (exponents-small a))
-      (exponents-small b)
+    (and-from (eqb (length x) (length y) && leb (length x) 24) (small x)
+    (and-from (eqb (length x) (length y)) (leb (length x) 24) (eq-eqb (length x) (length y) (omega arith)) (le-leb (length x) 24 (omega arith))) (exponents-small a))
+    (exponents-small b)
 
 pub compared-at : (cmp : Compare) (a b : Monomial) → a .variables ≡ b .variables → compared cmp (exponents-of a) (exponents-of b) ≡ Some (cmp (exponents-of a) (exponents-of b))
 compared-at cmp a b e = cond-true (comparable (exponents-of a) (exponents-of b)) _ None (comparable-at a b e)

@@ -5,6 +5,7 @@ use mathlib.Core.Logic.{_⊎_, inl, inr}
 use Prim.Native.Nat.{ℕ}
 use native.Mathlib.Omega.{arith}
 use Rattle.std.specs.Results.{Cases}
+use Rattle.std.specs.Vec.{made}
 use Rattle.std.specs.declared.result.Result.{Result}
 use Rattle.std.specs.declared.result.Result.the-variants.{Ok, Err}
 use Rattle.polynomial.specs.Results.{_>>=_, _>>_, check, because, answered}
@@ -51,3 +52,8 @@ checked-err false d r e h = inl (refl, (let z : d ≡ e = cc in z))
 pub because-err : {E F A : Type 0} (f : E → F) (r : Result A E) (e : F) → because f r ≡ Err e → (x : E) × (r ≡ Err x) × (f x ≡ e)
 because-err f (Ok a) e h = let z : _≡_ {A = ℕ} 0 1 = cc in absurd (omega arith)
 because-err f (Err x) e h = (x, refl, (let z : f x ≡ e = cc in z))
+
+-- to be said only of an answer
+pub made-if : {E A : Type 0} (P : Type 0) (r : Result A E) → ((x : A) → r ≡ Ok x → P) → made r (λ _. P)
+made-if P (Ok x) h = h x refl
+made-if P (Err e) h = tt

@@ -31,8 +31,8 @@ ok-term t = Ok t
 
 -- a term whose coefficient is a code but 0, by what its exponents are
 pub term-is : (k : Arithmetic) (cmp : Compare) (i : ℕ) (last : Option (List ℕ)) (xs : List ℕ) → 0 < length xs → 0 < getD xs 0 0 → getD xs 0 0 < k .size
-  → (low lower : Bool) → small (drop 1 xs) ≡ low → falls cmp last (drop 1 xs) ≡ lower
-  → term k cmp i last xs ≡ (check low (Exponent i) >> (check lower (Order i) >> Ok (getD xs 0 0, drop 1 xs)))
+    → (low lower : Bool) → small (drop 1 xs) ≡ low → falls cmp last (drop 1 xs) ≡ lower
+    → term k cmp i last xs ≡ (check low (Exponent i) >> (check lower (Order i) >> Ok (getD xs 0 0, drop 1 xs)))
 term-is k cmp i last [] h p q low lower d e = absurd (omega arith)
 term-is k cmp i last (c ∷ m) h p q low lower d e =
     let rest : Read = check (small m) (Exponent i) >> (check (falls cmp last m) (Order i) >> Ok (c, m)) in
@@ -65,7 +65,7 @@ prefixed-one xs t (Err e) = refl
 module _ (k : Arithmetic) (n : ℕ) (cmp : Compare) where
   -- one term more, where c are left; the front and the back are those of the code's split
   pub terms-ok : (c i : ℕ) (last : Option (List ℕ)) (xs front back : List ℕ) (out : Raw) (t : Term ℕ (List ℕ)) → 0 < c → front ≡ take (n + 1) xs → back ≡ drop (n + 1) xs → Ok t ≡ term k cmp i last front
-    → prefixed out (terms k n cmp c i last xs) ≡ prefixed (out ++ (t ∷ [])) (terms k n cmp (c - 1) (i + 1) (Some (t .1)) back)
+      → prefixed out (terms k n cmp c i last xs) ≡ prefixed (out ++ (t ∷ [])) (terms k n cmp (c - 1) (i + 1) (Some (t .1)) back)
   terms-ok zero i last xs front back out t h f b e = absurd (omega arith)
   terms-ok (suc c) i last xs front back out t h f b e =
       let s : suc n ≡ n + 1 = omega arith in
@@ -77,7 +77,7 @@ module _ (k : Arithmetic) (n : ℕ) (cmp : Compare) where
       ∙ ap₂ (λ y z. prefixed (out ++ (t ∷ [])) (terms k n cmp y z (Some (t .1)) back)) (let d : c ≡ suc c - 1 = omega arith in d) (let d : suc i ≡ i + 1 = omega arith in d)
 
   pub terms-err : (c i : ℕ) (last : Option (List ℕ)) (xs front : List ℕ) (out : Raw) (flaw : Flaw) → 0 < c → front ≡ take (n + 1) xs → Err flaw ≡ term k cmp i last front
-    → prefixed out (terms k n cmp c i last xs) ≡ Err flaw
+      → prefixed out (terms k n cmp c i last xs) ≡ Err flaw
   terms-err zero i last xs front out flaw h f e = absurd (omega arith)
   terms-err (suc c) i last xs front out flaw h f e =
       let s : suc n ≡ n + 1 = omega arith in

@@ -40,7 +40,7 @@ behind-one xs t false p = refl
 
 module _ (o : Operations ℕ (List ℕ)) (s t : Written ℕ (List ℕ)) (p out : Raw) where
   pub multiple-on : small (o .multiply (s .1) (t .1)) ≡ true
-    → behind out (tight (multiple o s (t ∷ p))) ≡ behind (out ++ ((o .times (s .0) (t .0), o .multiply (s .1) (t .1)) ∷ [])) (tight (multiple o s p))
+      → behind out (tight (multiple o s (t ∷ p))) ≡ behind (out ++ ((o .times (s .0) (t .0), o .multiply (s .1) (t .1)) ∷ [])) (tight (multiple o s p))
   multiple-on e =
       let x : Written ℕ (List ℕ) = (o .times (s .0) (t .0), o .multiply (s .1) (t .1)) in
       ap (λ b. behind out (check (b && all-small (multiple o s p)) Exponent >> Ok (x ∷ multiple o s p))) e ∙ behind-one out x (all-small (multiple o s p)) (multiple o s p)
@@ -73,8 +73,8 @@ pub bounded-is : (room : ℕ) (p v : Raw) → Ok v ≡ bounded room p → v ≡ 
 bounded-is room p v e = let (b, is) = checked (leb (length p) room) Terms (Ok p) v (sym e) in cc
 
 -- a step in its two parts
-pub step-is : (o : Operations ℕ (List ℕ)) (b room : ℕ) (t : Written ℕ (List ℕ)) (p f m v : Raw) → room ≡ 512 - b → Ok m ≡ tight (multiple o t p) → Ok v ≡ bounded room (sum o m f) → Ok v ≡ step o b t p f
-step-is o b room t p f m v r e d = d ∙ ap (λ z. bounded z (sum o m f)) r ∙ ap (λ (x : Result Raw Limit). x >>= (λ m. bounded (512 - b) (sum o m f))) e
+pub step-is : (o : Operations ℕ (List ℕ)) (b room : ℕ) (t : Written ℕ (List ℕ)) (p f m : Raw) (x : Result Raw Limit) → room ≡ 512 - b → Ok m ≡ tight (multiple o t p) → x ≡ bounded room (sum o m f) → x ≡ step o b t p f
+step-is o b room t p f m x r e d = d ∙ ap (λ z. bounded z (sum o m f)) r ∙ ap (λ (x : Result Raw Limit). x >>= (λ m. bounded (512 - b) (sum o m f))) e
 
 -- a step that is not refused is the sum
 pub step-sum : (o : Operations ℕ (List ℕ)) (b : ℕ) (t : Written ℕ (List ℕ)) (p f s : Raw) → step o b t p f ≡ Ok s → s ≡ sum o (multiple o t p) f

@@ -13,7 +13,6 @@ ghost use Rattle.polynomial.specs.Rings.{over, Within, Factor};
 ghost use Rattle.polynomial.specs.Views.{term-of, view};
 use crate::flaw::Limit;
 use crate::polynomial::Polynomial;
-use crate::polynomial::MOST_TERMS;
 use crate::ring::Ring;
 use crate::term::Term;
 use field::Field;
@@ -24,7 +23,7 @@ use std::alloc::Global;
 #[derive(Drop)]
 pub struct Accumulator {
     sum: Polynomial,
-    multiple: Polynomial,
+    product: Polynomial,
     spare: Polynomial,
 }
 
@@ -34,9 +33,13 @@ impl Accumulator {
         ensures { λ r. ⌜ made r (λ a. vec-items (a .sum .terms) ≡ []) ⌝ }
     {
         let sum = Polynomial::new(heap)?;
-        let multiple = Polynomial::new(heap)?;
+        let product = Polynomial::new(heap)?;
         let spare = Polynomial::new(heap)?;
-        Ok(Accumulator { sum, multiple, spare })
+        Ok(Accumulator {
+            sum,
+            product,
+            spare,
+        })
     }
 
     pub fn terms(&self) -> &[Term]
@@ -53,7 +56,13 @@ impl Accumulator {
     }
 
     // Adds factor · p in one step; `beside` terms are kept elsewhere and count among the 512 too. A refused step changes nothing.
-    pub fn add<F: Field, O: MonomialOrder>(&mut self, ring: &Ring<F, O>, beside: usize, factor: &Term, p: &[Term]) -> Result<(), Limit>
+    pub fn add<F: Field, O: MonomialOrder>(
+        &mut self,
+        ring: &Ring<F, O>,
+        beside: usize,
+        factor: &Term,
+        p: &[Term],
+    ) -> Result<(), Limit>
         requires factor { ⌜ Factor arithmetic (now ring) (term-of (now factor)) ⌝ }
         requires within { ⌜ Within arithmetic comparison (now ring) (view (now p)) ⌝ }
         requires few { ⌜ length (now p) ≤ 512 ⌝ }
@@ -62,9 +71,14 @@ impl Accumulator {
         ensures sum { λ r. ⌜ Cases r (λ _. view (vec-items (now (self .exit) .sum .terms)) ≡ sum (over arithmetic comparison (now (ring .entry))) (multiple (over arithmetic comparison (now (ring .entry))) (term-of (now (factor .entry))) (view (now (p .entry)))) (view (vec-items (now (self .entry) .sum .terms)))) (λ _. vec-items (now (self .exit) .sum .terms) ≡ vec-items (now (self .entry) .sum .terms)) ⌝ }
         ensures within { λ r. ⌜ Within arithmetic comparison (now (ring .entry)) (view (vec-items (now (self .exit) .sum .terms))) ⌝ }
     {
-        ring.multiple(factor, p, &mut self.multiple)?;
-        let room = MOST_TERMS.saturating_sub(beside);
-        ring.sum(room, self.multiple.terms(), self.sum.terms(), &mut self.spare)?;
+        ring.add_multiple(
+            beside,
+            factor,
+            p,
+            self.sum.terms(),
+            &mut self.product,
+            &mut self.spare,
+        )?;
         std::mem::swap(&mut self.sum, &mut self.spare);
         Ok(())
     }

@@ -8,6 +8,7 @@ ghost use Rattle.order.specs.Monomials.{small};
 mod methods;
 
 pub const MOST_VARIABLES: usize = 24;
+
 pub const MOST_EXPONENT: u16 = 255;
 
 // The exponents of the first `variables` places count; the others only fill the array.

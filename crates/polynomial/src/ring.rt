@@ -1,10 +1,10 @@
 // Polynomials in some variables over a field, ordered by a monomial order.
 ghost use Prim.Native.Nat.{_≤_};
 
-mod methods;
 mod codes;
-mod table;
+mod methods;
 mod sums;
+mod table;
 
 #[derive(Drop)]
 pub struct Ring<F, O> {

@@ -2,13 +2,14 @@
 ghost use mathlib.Core.Path.{_≡_};
 ghost use mathlib.Core.Bool.{true, false, _&&_};
 ghost use lib.Dec.{leb};
-ghost use lib.ListN.{length};
+ghost use Prim.Native.Nat.{min};
+ghost use lib.ListN.{length, take};
 ghost use Rattle.std.specs.Options.{Cases};
 ghost use Rattle.order.specs.Monomials.{multiply, small};
 ghost use Rattle.polynomial.specs.Views.{exponents-of};
-use crate::monomial::Monomial;
 use crate::monomial::MOST_EXPONENT;
 use crate::monomial::MOST_VARIABLES;
+use crate::monomial::Monomial;
 
 impl Monomial {
     // The monomial with these exponents, unless they are too many or one is too high.
@@ -27,7 +28,10 @@ impl Monomial {
             }
             exponents[i] = exponent;
         }
-        Some(Monomial { exponents, variables })
+        Some(Monomial {
+            exponents,
+            variables,
+        })
     }
 
     pub fn exponents(&self) -> &[u16]
@@ -37,19 +41,30 @@ impl Monomial {
         &self.exponents[0..self.variables]
     }
 
-    // The product, unless an exponent passes 255.
-    pub fn product(&self, other: &Monomial) -> Option<Monomial>
-        ensures { λ r. ⌜ Cases r (small (multiply (exponents-of (now (self .entry))) (exponents-of (now (other .entry)))) ≡ false) (λ p. (small (multiply (exponents-of (now (self .entry))) (exponents-of (now (other .entry)))) ≡ true) × (exponents-of p ≡ multiply (exponents-of (now (self .entry))) (exponents-of (now (other .entry))))) ⌝ }
+    // The sums of the exponents, place by place, unless one passes 255.
+    fn add_exponents(&self, other: &Monomial) -> Option<[u16; 24]>
+        ensures { λ r. ⌜ Cases r (small (multiply (exponents-of (now (self .entry))) (exponents-of (now (other .entry)))) ≡ false) (λ sums. (small (multiply (exponents-of (now (self .entry))) (exponents-of (now (other .entry)))) ≡ true) × (length sums ≡ 24) × (small sums ≡ true) × (take (min (now (self .entry) .variables) (now (other .entry) .variables)) sums ≡ multiply (exponents-of (now (self .entry))) (exponents-of (now (other .entry))))) ⌝ }
     {
-        let variables = self.variables.min(other.variables);
         let mut exponents = [0u16; 24];
-        for i in 0..variables {
+        for i in 0..self.variables.min(other.variables) {
             let exponent = self.exponents[i] + other.exponents[i];
             if exponent > MOST_EXPONENT {
                 return None;
             }
             exponents[i] = exponent;
         }
-        Some(Monomial { exponents, variables })
+        Some(exponents)
+    }
+
+    // The product, unless an exponent passes 255.
+    pub fn product(&self, other: &Monomial) -> Option<Monomial>
+        ensures { λ r. ⌜ Cases r (small (multiply (exponents-of (now (self .entry))) (exponents-of (now (other .entry)))) ≡ false) (λ p. (small (multiply (exponents-of (now (self .entry))) (exponents-of (now (other .entry)))) ≡ true) × (exponents-of p ≡ multiply (exponents-of (now (self .entry))) (exponents-of (now (other .entry))))) ⌝ }
+    {
+        let variables = self.variables.min(other.variables);
+        let exponents = self.add_exponents(other)?;
+        Some(Monomial {
+            exponents,
+            variables,
+        })
     }
 }

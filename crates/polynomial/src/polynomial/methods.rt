@@ -3,8 +3,8 @@ ghost use mathlib.Core.Path.{_≡_};
 ghost use mathlib.Core.List.{[]};
 ghost use Rattle.std.specs.Of.Vec.{vec-items};
 ghost use Rattle.std.specs.Vec.{made};
-use crate::polynomial::Polynomial;
 use crate::polynomial::MOST_TERMS;
+use crate::polynomial::Polynomial;
 use crate::term::Term;
 use std::alloc::AllocError;
 use std::alloc::Global;
@@ -23,6 +23,7 @@ impl Polynomial {
     {
         self.terms.as_slice()
     }
+
     // The polynomial 0 again.
     pub fn clear(&mut self)
         ensures { λ _. ⌜ vec-items (now (self .exit) .terms) ≡ [] ⌝ }

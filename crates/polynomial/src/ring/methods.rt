@@ -14,13 +14,11 @@ impl<F: Field, O: MonomialOrder> Ring<F, O> {
         ensures order { λ r. ⌜ r .order ≡ order ⌝ }
         ensures variables { λ r. ⌜ r .variables ≡ 1 ⌝ }
     {
-        Ring { field, order, variables: 1 }
-    }
-
-    pub fn field(&self) -> &F
-        ensures { λ r. ⌜ now r ≡ now (self .entry) .field ⌝ }
-    {
-        &self.field
+        Ring {
+            field,
+            order,
+            variables: 1,
+        }
     }
 
     pub fn variables(&self) -> usize

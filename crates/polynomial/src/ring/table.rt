@@ -48,7 +48,12 @@ impl<F: Field, O: MonomialOrder> Ring<F, O> {
     }
 
     // Term `number` of a table from its own numbers, behind the monomial of the term before.
-    fn read_term(&self, number: usize, last: Option<Monomial>, numbers: &[u16]) -> Result<Term, Flaw>
+    fn read_term(
+        &self,
+        number: usize,
+        last: Option<Monomial>,
+        numbers: &[u16],
+    ) -> Result<Term, Flaw>
         requires whole { ⌜ length (now numbers) ≡ now self .variables + 1 ⌝ }
         requires alike { ⌜ Cases last (Unit {0}) (λ m. m .variables ≡ now self .variables) ⌝ }
         ensures value { λ r. ⌜ mapped-ok term-of r ≡ term (arithmetic (now (self .entry) .field)) (comparison (now (self .entry) .order)) number (mapped exponents-of last) (now (numbers .entry)) ⌝ }
@@ -67,7 +72,10 @@ impl<F: Field, O: MonomialOrder> Ring<F, O> {
         if !self.falls(last, &monomial) {
             return Err(Flaw::Order(number));
         }
-        Ok(Term { coefficient, monomial })
+        Ok(Term {
+            coefficient,
+            monomial,
+        })
     }
 
     // Reads a whole table.

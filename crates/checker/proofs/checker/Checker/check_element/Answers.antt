@@ -15,7 +15,7 @@ returns g c =
       standing = subst₂ (λ ring list. Each (Within (g .F·Field .arithmetic) (g .O·MonomialOrder .comparison) ring) (polynomials list)) (sym (e .ring)) (sym (e .generators)) (c .pre .standing);
       value = e .value;
       verdict = verdict k (g .F·Field·met .lawful (c .args .self .now .ring .field)) n cmp (g .O·MonomialOrder·met .lawful (c .args .self .now .ring .order) n)
-        (polynomials (c .args .self .now .generators)) (c .pre .standing) (c .args .number) (c .args .table .now) (c .args .cofactors .now) (c .args .counts .now) (c .examine .result) (e .value);
+          (polynomials (c .args .self .now .generators)) (c .pre .standing) (c .args .number) (c .args .table .now) (c .args .cofactors .now) (c .args .counts .now) (c .examine .result) (e .value);
       ring = e .ring;
       generators = e .generators;
     }

@@ -45,7 +45,7 @@ returns-then-is-empty g c =
     let is : c .read .result ≡ Ok _ = because-ok _ (c .read .result) _ (c .in-Continue-in-table .ensures tt) in
     record {
       value = sym (ap forgotten (examined k n cmp (polynomials (c .args .self .now .generators)) (c .args .number) (c .args .table .now) (c .args .cofactors .now) (c .args .counts .now) p
-        (answered-ok (c .read .result) _ p _ is (c .read .ensures .value)) false _ _ _ (tested (c .terms .result .now) (vec-items (c .read .last .out .terms)) true (c .terms .ensures) (c .if-is-empty .ensures tt)) refl refl refl));
+          (answered-ok (c .read .result) _ p _ is (c .read .ensures .value)) false _ _ _ (tested (c .terms .result .now) (vec-items (c .read .last .out .terms)) true (c .terms .ensures) (c .if-is-empty .ensures tt)) refl refl refl));
       ring = refl;
       generators = refl;
     }
@@ -59,8 +59,8 @@ returns-then-counts-len g c =
     let is : c .read .result ≡ Ok _ = because-ok _ (c .read .result) _ (c .in-Continue-in-table .ensures tt) in
     record {
       value = sym (ap forgotten (examined k n cmp (polynomials (c .args .self .now .generators)) (c .args .number) (c .args .table .now) (c .args .cofactors .now) (c .args .counts .now) p
-        (answered-ok (c .read .result) _ p _ is (c .read .ensures .value)) true false _ _ (tested (c .terms .result .now) (vec-items (c .read .last .out .terms)) false (c .terms .ensures) (c .if-is-empty .ensures tt))
-        (ne-eqb _ _ (λ e. c .if-counts-len .taken (e ∙ sym (c .len .ensures)))) refl refl));
+          (answered-ok (c .read .result) _ p _ is (c .read .ensures .value)) true false _ _ (tested (c .terms .result .now) (vec-items (c .read .last .out .terms)) false (c .terms .ensures) (c .if-is-empty .ensures tt))
+          (ne-eqb _ _ (λ e. c .if-counts-len .taken (e ∙ sym (c .len .ensures)))) refl refl));
       ring = refl;
       generators = refl;
     }
@@ -77,8 +77,8 @@ returns-then-not-is-whole g c =
     let is : c .read .result ≡ Ok _ = because-ok _ (c .read .result) _ (c .in-Continue-in-table .ensures tt) in
     record {
       value = sym (ap forgotten (examined k n cmp (polynomials (c .args .self .now .generators)) (c .args .number) (c .args .table .now) (c .args .cofactors .now) (c .args .counts .now) p
-        (answered-ok (c .read .result) _ p _ is (c .read .ensures .value)) true true false _ (tested (c .terms .result .now) (vec-items (c .read .last .out .terms)) false (c .terms .ensures) (c .if-is-empty .ensures tt))
-        (eq-eqb _ _ (c .if-counts-len .left ∙ c .len .ensures)) (sym (c .if-not-is-whole .ensures tt)) refl));
+          (answered-ok (c .read .result) _ p _ is (c .read .ensures .value)) true true false _ (tested (c .terms .result .now) (vec-items (c .read .last .out .terms)) false (c .terms .ensures) (c .if-is-empty .ensures tt))
+          (eq-eqb _ _ (c .if-counts-len .left ∙ c .len .ensures)) (sym (c .if-not-is-whole .ensures tt)) refl));
       ring = refl;
       generators = refl;
     }
@@ -95,8 +95,8 @@ returns-in-Break-check-cofactors g c =
     let e = c .in-Break-check-cofactors .field-0 .0 in
     record {
       value = refused ∙ ap Err was ∙ sym (ap forgotten (examined k n cmp gens (c .args .number) (c .args .table .now) (c .args .cofactors .now) (c .args .counts .now) p
-        (answered-ok (c .read .result) _ p _ is (c .read .ensures .value)) true true true (Err (Table e)) (tested (c .terms .result .now) (vec-items (c .read .last .out .terms)) false (c .terms .ensures) (c .if-is-empty .ensures tt))
-        (eq-eqb _ _ (c .if-counts-len .left ∙ c .len .ensures)) (sym (c .if-not-is-whole .ensures tt)) (sum-refused k n cmp gens (c .args .number) (c .args .table .now) (c .args .cofactors .now) (c .args .counts .now) e (c .in-Break-check-cofactors .ensures tt))));
+          (answered-ok (c .read .result) _ p _ is (c .read .ensures .value)) true true true (Err (Table e)) (tested (c .terms .result .now) (vec-items (c .read .last .out .terms)) false (c .terms .ensures) (c .if-is-empty .ensures tt))
+          (eq-eqb _ _ (c .if-counts-len .left ∙ c .len .ensures)) (sym (c .if-not-is-whole .ensures tt)) (sum-refused k n cmp gens (c .args .number) (c .args .table .now) (c .args .cofactors .now) (c .args .counts .now) e (c .in-Break-check-cofactors .ensures tt))));
       ring = refl;
       generators = refl;
     }
@@ -113,8 +113,8 @@ returns-in-Break-add-cofactors g c =
     let e = c .in-Break-add-cofactors .field-0 .0 in
     record {
       value = refused ∙ ap Err was ∙ sym (ap forgotten (examined k n cmp gens (c .args .number) (c .args .table .now) (c .args .cofactors .now) (c .args .counts .now) p
-        (answered-ok (c .read .result) _ p _ is (c .read .ensures .value)) true true true (Err e) (tested (c .terms .result .now) (vec-items (c .read .last .out .terms)) false (c .terms .ensures) (c .if-is-empty .ensures tt))
-        (eq-eqb _ _ (c .if-counts-len .left ∙ c .len .ensures)) (sym (c .if-not-is-whole .ensures tt)) (sym (c .in-Break-add-cofactors .ensures tt))));
+          (answered-ok (c .read .result) _ p _ is (c .read .ensures .value)) true true true (Err e) (tested (c .terms .result .now) (vec-items (c .read .last .out .terms)) false (c .terms .ensures) (c .if-is-empty .ensures tt))
+          (eq-eqb _ _ (c .if-counts-len .left ∙ c .len .ensures)) (sym (c .if-not-is-whole .ensures tt)) (sym (c .in-Break-add-cofactors .ensures tt))));
       ring = refl;
       generators = refl;
     }
@@ -133,9 +133,9 @@ returns-then-not-are-equal g c =
     let is : c .read .result ≡ Ok _ = because-ok _ (c .read .result) _ (c .in-Continue-in-table .ensures tt) in
     record {
       value = sym (ap forgotten (examined k n cmp gens (c .args .number) (c .args .table .now) (c .args .cofactors .now) (c .args .counts .now) p
-        (answered-ok (c .read .result) _ p _ is (c .read .ensures .value)) true true true _ (tested (c .terms .result .now) (vec-items (c .read .last .out .terms)) false (c .terms .ensures) (c .if-is-empty .ensures tt))
-        (eq-eqb _ _ (c .if-counts-len .left ∙ c .len .ensures)) (sym (c .if-not-is-whole .ensures tt)) (sym (c .in-Continue-add-cofactors .ensures tt))
-        ∙ compared (c .args .number) (c .terms-2 .result .now) (c .terms-3 .result .now) _ (vec-items (c .read .last .out .terms)) false (c .terms-2 .ensures) (c .terms-3 .ensures) (c .if-not-are-equal .ensures tt)));
+          (answered-ok (c .read .result) _ p _ is (c .read .ensures .value)) true true true _ (tested (c .terms .result .now) (vec-items (c .read .last .out .terms)) false (c .terms .ensures) (c .if-is-empty .ensures tt))
+          (eq-eqb _ _ (c .if-counts-len .left ∙ c .len .ensures)) (sym (c .if-not-is-whole .ensures tt)) (sym (c .in-Continue-add-cofactors .ensures tt))
+          ∙ compared (c .args .number) (c .terms-2 .result .now) (c .terms-3 .result .now) _ (vec-items (c .read .last .out .terms)) false (c .terms-2 .ensures) (c .terms-3 .ensures) (c .if-not-are-equal .ensures tt)));
       ring = refl;
       generators = refl;
     }
@@ -150,9 +150,9 @@ returns g c =
     let is : c .read .result ≡ Ok _ = because-ok _ (c .read .result) _ (c .in-Continue-in-table .ensures tt) in
     record {
       value = sym (ap forgotten (examined k n cmp gens (c .args .number) (c .args .table .now) (c .args .cofactors .now) (c .args .counts .now) p
-        (answered-ok (c .read .result) _ p _ is (c .read .ensures .value)) true true true _ (tested (c .terms .result .now) (vec-items (c .read .last .out .terms)) false (c .terms .ensures) (c .if-is-empty .ensures tt))
-        (eq-eqb _ _ (c .if-counts-len .left ∙ c .len .ensures)) (sym (c .if-not-is-whole .ensures tt)) (sym (c .in-Continue-add-cofactors .ensures tt))
-        ∙ compared (c .args .number) (c .terms-2 .result .now) (c .terms-3 .result .now) _ (vec-items (c .read .last .out .terms)) true (c .terms-2 .ensures) (c .terms-3 .ensures) (c .if-not-are-equal .ensures tt)));
+          (answered-ok (c .read .result) _ p _ is (c .read .ensures .value)) true true true _ (tested (c .terms .result .now) (vec-items (c .read .last .out .terms)) false (c .terms .ensures) (c .if-is-empty .ensures tt))
+          (eq-eqb _ _ (c .if-counts-len .left ∙ c .len .ensures)) (sym (c .if-not-is-whole .ensures tt)) (sym (c .in-Continue-add-cofactors .ensures tt))
+          ∙ compared (c .args .number) (c .terms-2 .result .now) (c .terms-3 .result .now) _ (vec-items (c .read .last .out .terms)) true (c .terms-2 .ensures) (c .terms-3 .ensures) (c .if-not-are-equal .ensures tt)));
       ring = refl;
       generators = refl;
     }

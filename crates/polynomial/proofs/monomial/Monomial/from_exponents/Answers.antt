@@ -21,15 +21,20 @@ loop-i-again c =
     let row = c .args .row .now in
     let i = c .loop-i .i in
     let v = getD row i 0 in
-    let (a, b, d, e) = c .loop-i .inv in
-    (length-set (c .loop-i .exponents) i v ∙ a, small-set i v (c .loop-i .exponents) (omega arith) b,
-      take-set-more i v (c .loop-i .exponents) row (omega arith) (omega arith) refl d, small-more i row (omega arith) (omega arith) e)
+    let (a, b, d, e) = c .loop-i .inv in (
+      length-set (c .loop-i .exponents) i v ∙ a,
+      small-set i v (c .loop-i .exponents) (omega arith) b,
+      take-set-more i v (c .loop-i .exponents) row (omega arith) (omega arith) refl d,
+      small-more i row (omega arith) (omega arith) e,
+    )
 
 pub returns : need.returns
 returns c =
     let row = c .args .row .now in
     let i : c .loop-i .i ≡ length row = omega arith in
     let all : take (c .loop-i .i) row ≡ row = take-all (c .loop-i .i) row (omega arith) in
-    let (a, b, d, e) = c .loop-i .inv in
-    (and-from (leb (length row) 24) (small row) (le-leb (length row) 24 (omega arith)) (ap small (sym all) ∙ e),
-      ap (λ k. take k (c .loop-i .exponents)) (sym i) ∙ d ∙ all, refl)
+    let (a, b, d, e) = c .loop-i .inv in (
+      and-from (leb (length row) 24) (small row) (le-leb (length row) 24 (omega arith)) (ap small (sym all) ∙ e),
+      ap (λ k. take k (c .loop-i .exponents)) (sym i) ∙ d ∙ all,
+      refl,
+    )

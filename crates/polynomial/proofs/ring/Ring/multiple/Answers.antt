@@ -23,9 +23,9 @@ use Rattle.polynomial.proofs.ring.Ring.multiple.Needs as need
 
 -- one more term of the multiple is written
 turn : (o : Operations ℕ (List ℕ)) (s : Written ℕ (List ℕ)) (p : List Term) (i : ℕ) (x y : Term) (before after : List Term) → i < length p → x ≡ getD p i x
-  → small (o .multiply (s .1) (exponents-of (x .monomial))) ≡ true → term-of y ≡ (o .times (s .0) (x .coefficient), o .multiply (s .1) (exponents-of (x .monomial))) → after ≡ before ++ (y ∷ [])
-  → tight (multiple o s (view p)) ≡ behind (view before) (tight (multiple o s (view (drop i p))))
-  → tight (multiple o s (view p)) ≡ behind (view after) (tight (multiple o s (view (drop (i + 1) p))))
+    → small (o .multiply (s .1) (exponents-of (x .monomial))) ≡ true → term-of y ≡ (o .times (s .0) (x .coefficient), o .multiply (s .1) (exponents-of (x .monomial))) → after ≡ before ++ (y ∷ [])
+    → tight (multiple o s (view p)) ≡ behind (view before) (tight (multiple o s (view (drop i p))))
+    → tight (multiple o s (view p)) ≡ behind (view after) (tight (multiple o s (view (drop (i + 1) p))))
 turn o s p i x y before after h e low is wrote inv =
     let rest = view (drop (i + 1) p) in
     inv ∙ ap (λ v. behind (view before) (tight (multiple o s v))) (view-at i p x h e) ∙ multiple-on o s (term-of x) rest (view before) low
@@ -45,7 +45,7 @@ returns-in-rest g c =
     let i = c .loop-term .term-index in
     let x = c .term-item .result in
     sym (c .loop-term .inv .2 ∙ ap (λ v. behind out (tight (multiple o s v))) (view-at i (c .args .p .now) x (c .loop-term-test .taken) (c .term-item .is))
-      ∙ multiple-stops o s (term-of x) (view (drop (i + 1) (c .args .p .now))) out (c .in-rest .ensures tt))
+    ∙ multiple-stops o s (term-of x) (view (drop (i + 1) (c .args .p .now))) out (c .in-rest .ensures tt))
 
 pub times-coefficient-requires : need.times-coefficient-requires
 times-coefficient-requires g c κs =
@@ -63,9 +63,11 @@ loop-term-again g c =
     let x = c .term-item .result in
     let (low, product) = c .in-Some .ensures tt in
     let y : Term = record { coefficient = c .times-coefficient .result; monomial = c .in-Some .monomial } in
-    let is : term-of y ≡ (o .times (c .args .factor .now .coefficient) (x .coefficient), multiply (exponents-of (c .args .factor .now .monomial)) (exponents-of (x .monomial))) = cc (c .times-coefficient .ensures, product) in
-    (search needs, search needs,
-      turn o (term-of (c .args .factor .now)) (c .args .p .now) (c .loop-term .term-index) x y (vec-items (c .loop-term .out .terms)) (vec-items (c .push-reserved .last .self)) (c .loop-term-test .taken) (c .term-item .is) low is (c .push-reserved .ensures .items) (c .loop-term .inv .2))
+    let is : term-of y ≡ (o .times (c .args .factor .now .coefficient) (x .coefficient), multiply (exponents-of (c .args .factor .now .monomial)) (exponents-of (x .monomial))) = cc (c .times-coefficient .ensures, product) in (
+      search needs,
+      search needs,
+      turn o (term-of (c .args .factor .now)) (c .args .p .now) (c .loop-term .term-index) x y (vec-items (c .loop-term .out .terms)) (vec-items (c .push-reserved .last .self)) (c .loop-term-test .taken) (c .term-item .is) low is (c .push-reserved .ensures .items) (c .loop-term .inv .2),
+    )
 
 pub returns : need.returns
 returns g c =

@@ -64,14 +64,13 @@ loop-number-again g c =
     let back = c .split-at .result .1 .now in
     let m = left-more (count - i) (n + 1) (length rest) (omega arith) (c .loop-number .inv .2) in
     let down : count - i - 1 ≡ count - (i + 1) = omega arith in
-    let more = terms-ok k n cmp (count - i) i (mapped exponents-of (c .loop-number .last)) rest (c .split-at .result .0 .now) back (view out) (term-of x) (omega arith) (c .split-at .ensures .front) (c .split-at .ensures .back) (c .in-Continue-term .ensures tt .value) in
-    (
+    let more = terms-ok k n cmp (count - i) i (mapped exponents-of (c .loop-number .last)) rest (c .split-at .result .0 .now) back (view out) (term-of x) (omega arith) (c .split-at .ensures .front) (c .split-at .ensures .back) (c .in-Continue-term .ensures tt .value) in (
       omega (arith, c .push-reserved .ensures .len),
       c .loop-number .inv .1,
       (let l = c .split-at .ensures .back-len in let e : length back ≡ length rest - (n + 1) = omega arith in e) ∙ m .1 ∙ ap (λ z. z * (n + 1)) down,
       c .in-Continue-term .ensures tt .variables,
       c .loop-number .inv .4 ∙ more ∙ ap (λ v. prefixed v (terms k n cmp (count - i - 1) (i + 1) (Some (exponents-of (x .monomial))) back)) (sym (view-append out (x ∷ [])) ∙ ap view (sym (c .push-reserved .ensures .items)))
-      ∙ ap (λ z. prefixed (view (vec-items (c .push-reserved .last .self))) (terms k n cmp z (i + 1) (Some (exponents-of (x .monomial))) back)) down,
+          ∙ ap (λ z. prefixed (view (vec-items (c .push-reserved .last .self))) (terms k n cmp z (i + 1) (Some (exponents-of (x .monomial))) back)) down,
     )
 
 pub returns : need.returns

@@ -24,10 +24,10 @@ use Rattle.polynomial.proofs.ring.Ring.sum.Needs as need
 
 -- one turn: what `next` says of the rests of p and q, put behind what is written
 turn : (o : Operations ℕ (List ℕ)) (p q : List Term) (i j l r : ℕ) (t : Option Term) (out : Raw)
-  → sum o (view p) (view q) ≡ out ++ sum o (view (drop i p)) (view (drop j q))
-  → sum o (view (take (length p - i) (drop i p))) (view (take (length q - j) (drop j q)))
+    → sum o (view p) (view q) ≡ out ++ sum o (view (drop i p)) (view (drop j q))
+    → sum o (view (take (length p - i) (drop i p))) (view (take (length q - j) (drop j q)))
     ≡ view (listOf t) ++ sum o (view (drop l (take (length p - i) (drop i p)))) (view (drop r (take (length q - j) (drop j q))))
-  → sum o (view p) (view q) ≡ (out ++ view (listOf t)) ++ sum o (view (drop (i + l) p)) (view (drop (j + r) q))
+    → sum o (view p) (view q) ≡ (out ++ view (listOf t)) ++ sum o (view (drop (i + l) p)) (view (drop (j + r) q))
 turn o p q i j l r t out inv step =
     let s = rw (take-rest p i, take-rest q j, drop-drop l i p, drop-drop r j q) at step in
     inv ∙ ap (λ v. out ++ v) s ∙ sym (append-assoc out (view (listOf t)) _)
@@ -44,7 +44,7 @@ unwritten : (all rest out : Raw) (t : Option Term) → t ≡ None → all ≡ (o
 unwritten all rest out t e h = h ∙ ap (λ v. v ++ rest) (ap (λ y. out ++ view (listOf y)) e ∙ append-nil out)
 
 ended : (o : Operations ℕ (List ℕ)) (room : ℕ) (p q : List Term) (i j : ℕ) (out : List Term) → length p ≤ i → length q ≤ j → length out ≤ room
-  → sum o (view p) (view q) ≡ view out ++ sum o (view (drop i p)) (view (drop j q)) → Ok (view out) ≡ bounded room (sum o (view p) (view q))
+    → sum o (view p) (view q) ≡ view out ++ sum o (view (drop i p)) (view (drop j q)) → Ok (view out) ≡ bounded room (sum o (view p) (view q))
 ended o room p q i j out h l z s =
     let w : sum o (view p) (view q) ≡ view out = s ∙ ap₂ (λ x y. view out ++ sum o (view x) (view y)) (drop-all i p h) (drop-all j q l) ∙ append-nil (view out) in
     fits room (view out) (rw (view-length out) z) ∙ ap (bounded room) (sym w)

@@ -2,7 +2,7 @@ use mathlib.Core.Path.{_≡_}
 use mathlib.Core.Bool.{true}
 use lib.ListN.{length, take}
 use Rattle.order.specs.Monomials.{multiply, small}
-use Rattle.polynomial.proofs.monomial.Monomial.product.Given as given
+use Rattle.polynomial.proofs.monomial.Monomial.add_exponents.Given as given
 
 abbrev pub Inv-loop-i : given.InvT-loop-i
 Inv-loop-i l =
