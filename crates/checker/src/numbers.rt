@@ -1,6 +1,6 @@
 // The five numbers of a fault.
 ghost use mathlib.Core.Path.{_≡_};
-ghost use Rattle.checker.specs.Numbers.{flaw-numbers, table-numbers, arithmetic-numbers, numbers};
+ghost use Rattle.checker.specs.Numbers.{five, flaw-numbers, table-numbers, arithmetic-numbers, numbers};
 use crate::fault::ArithmeticFault;
 use crate::fault::Fault;
 use crate::fault::Place;
@@ -19,22 +19,27 @@ pub struct FaultNumbers {
     pub second: usize,
 }
 
-fn of_flaw(subject: u16, first: usize, flaw: Flaw) -> FaultNumbers
-    ensures { λ r. ⌜ r ≡ flaw-numbers subject first flaw ⌝ }
+fn five(refusal: u16, layer: u16, subject: u16, first: usize, second: usize) -> FaultNumbers
+    ensures { λ r. ⌜ r ≡ five refusal layer subject first second ⌝ }
 {
-    let (refusal, second) = match flaw {
-        Flaw::Length => (4, 0),
-        Flaw::Terms => (5, 0),
-        Flaw::Coefficient(term) => (6, term),
-        Flaw::Exponent(term) => (7, term),
-        Flaw::Order(term) => (8, term),
-    };
     FaultNumbers {
         refusal,
-        layer: 2,
+        layer,
         subject,
         first,
         second,
+    }
+}
+
+fn of_flaw(subject: u16, first: usize, flaw: Flaw) -> FaultNumbers
+    ensures { λ r. ⌜ r ≡ flaw-numbers subject first flaw ⌝ }
+{
+    match flaw {
+        Flaw::Length => five(4, 2, subject, first, 0),
+        Flaw::Terms => five(5, 2, subject, first, 0),
+        Flaw::Coefficient(term) => five(6, 2, subject, first, term),
+        Flaw::Exponent(term) => five(7, 2, subject, first, term),
+        Flaw::Order(term) => five(8, 2, subject, first, term),
     }
 }
 
@@ -46,20 +51,8 @@ impl TableFault {
             TableFault::Flawed(Place::Generator(number), flaw) => of_flaw(1, number, flaw),
             TableFault::Flawed(Place::Element(number), flaw) => of_flaw(2, number, flaw),
             TableFault::Flawed(Place::Cofactor(number), flaw) => of_flaw(3, number, flaw),
-            TableFault::NoTerm(number) => FaultNumbers {
-                refusal: 9,
-                layer: 2,
-                subject: 2,
-                first: number,
-                second: 0,
-            },
-            TableFault::CofactorCount => FaultNumbers {
-                refusal: 10,
-                layer: 2,
-                subject: 0,
-                first: 0,
-                second: 0,
-            },
+            TableFault::NoTerm(number) => five(9, 2, 2, number, 0),
+            TableFault::CofactorCount => five(10, 2, 0, 0, 0),
         }
     }
 }
@@ -73,13 +66,7 @@ impl ArithmeticFault {
             Limit::Terms => 12,
         };
         match self.work {
-            Work::CofactorTerm(first, second) => FaultNumbers {
-                refusal,
-                layer: 3,
-                subject: 3,
-                first,
-                second,
-            },
+            Work::CofactorTerm(number, term) => five(refusal, 3, 3, number, term),
         }
     }
 }
@@ -89,29 +76,11 @@ impl Fault {
         ensures { λ r. ⌜ r ≡ numbers (now (self .entry)) ⌝ }
     {
         match self {
-            Fault::Field(FieldFault::UnlistedSize) => FaultNumbers {
-                refusal: 17,
-                layer: 1,
-                subject: 0,
-                first: 0,
-                second: 0,
-            },
-            Fault::Full => FaultNumbers {
-                refusal: 3,
-                layer: 4,
-                subject: 0,
-                first: 0,
-                second: 0,
-            },
+            Fault::Field(FieldFault::UnlistedSize) => five(17, 1, 0, 0, 0),
+            Fault::Full => five(3, 4, 0, 0, 0),
             Fault::Table(fault) => fault.numbers(),
             Fault::Arithmetic(fault) => fault.numbers(),
-            Fault::NotTheSum(number) => FaultNumbers {
-                refusal: 13,
-                layer: 4,
-                subject: 2,
-                first: *number,
-                second: 0,
-            },
+            Fault::NotTheSum(number) => five(13, 4, 2, *number, 0),
         }
     }
 }
