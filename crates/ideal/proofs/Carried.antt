@@ -39,9 +39,12 @@ module _ {k : Arithmetic} (F : FieldLaws k) {n : ℕ} {cmp : Compare} (O : Order
   L = lift.laws F O
 
   -- up to codes and monomials, and down again
-  lower-down : (d : Monomial n) (p : P) → All (Lower o d) p → All (Lower r (d .0)) (bare p)
-  lower-down d [] a = tt
-  lower-down d (t ∷ p) (x, a) = (x, lower-down d p a)
+  pub all-down : (A : Monomial n → Type 0) (B : List ℕ → Type 0) → ((m : Monomial n) → A m → B (m .0)) → (p : P) → All A p → All B (bare p)
+  all-down A B h [] a = tt
+  all-down A B h (t ∷ p) (x, a) = (h _ x, all-down A B h p a)
+
+  pub lower-down : (d : Monomial n) (p : P) → All (Lower o d) p → All (Lower r (d .0)) (bare p)
+  lower-down d = all-down (Lower o d) (Lower r (d .0)) (λ m x. x)
 
   lower-up : (d : Monomial n) (p : P) → All (Lower r (d .0)) (bare p) → All (Lower o d) p
   lower-up d [] a = tt

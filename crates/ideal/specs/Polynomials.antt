@@ -1,14 +1,17 @@
 -- Polynomials over any coefficients K and monomials M, and their sums and products. Assumes nothing.
 --   Operations             what polynomials are computed with: coefficients and monomials
 --   Term, Poly             a coefficient and a monomial; a list of terms
+--   Element, whole         a polynomial that is not 0, as its leading term and the rest; the two put together
 --   Falling                no coefficient is 0, and each monomial is lower than all before it
 --   coefficient p m        the coefficient of p at the monomial m
 --   insert, sum, multiple  one term more; the sum of two; a term times a polynomial
 --   product, combination   the product of two; cofactor × generator, summed
+--   difference             one less another
 use mathlib.Core.Path.{_≡_}
 use mathlib.Core.Bool.{Bool, true, false}
 use mathlib.Core.List.{List, [], _∷_}
 use mathlib.Core.Logic.{_≢_}
+use Rattle.std.specs.declared.option.Option.{Option}
 use Rattle.std.specs.declared.cmp.Ordering.{Ordering}
 use Rattle.std.specs.declared.cmp.Ordering.the-variants.{Less, Equal, Greater}
 
@@ -18,9 +21,14 @@ pub record Operations (K M : Type 0) : Type 0 where
   pub plus : K → K → K
   pub negate : K → K
   pub times : K → K → K
+  pub inverse : K → K
   pub is-zero : K → Bool
   pub unit : M
   pub multiply : M → M → M
+  -- quotient b a: b divided by a, where a divides b
+  pub quotient : M → M → Option M
+  -- to-lcm a b: what a is multiplied by to make the least common multiple of a and b
+  pub to-lcm : M → M → M
   pub compare : M → M → Ordering
 
 abbrev pub Term : Type 0 → Type 0 → Type 0
@@ -28,6 +36,18 @@ Term K M = K × M
 
 abbrev pub Poly : Type 0 → Type 0 → Type 0
 Poly K M = List (Term K M)
+
+abbrev pub Element : Type 0 → Type 0 → Type 0
+Element K M = Term K M × Poly K M
+
+abbrev pub whole : {K M : Type 0} → Element K M → Poly K M
+whole g = g .0 ∷ g .1
+
+abbrev pub leading-coefficient : {K M : Type 0} → Element K M → K
+leading-coefficient g = g .0 .0
+
+abbrev pub leading-monomial : {K M : Type 0} → Element K M → M
+leading-monomial g = g .0 .1
 
 -- P of each monomial of a polynomial
 abbrev pub All : {K M : Type 0} → (M → Type 0) → Poly K M → Type 0
@@ -84,3 +104,6 @@ module _ {K M : Type 0} (o : Operations K M) where
   combination [] generators = []
   combination (a ∷ cofactors) [] = []
   combination (a ∷ cofactors) (p ∷ generators) = sum (product a p) (combination cofactors generators)
+
+  abbrev pub difference : Poly K M → Poly K M → Poly K M
+  difference p q = sum p (multiple (o .negate (o .one), o .unit) q)

@@ -1,5 +1,6 @@
 -- Polynomials in n variables over a field, ordered by a monomial order. Assumes nothing.
 --   Raw               a polynomial as it is written down: codes and lists of exponents
+--   RawElement        an element as it is written down
 --   ring k n cmp      what such polynomials are computed with
 --   Polynomial        a list of terms that is a polynomial: codes but 0, n exponents each, the monomials falling
 use mathlib.Core.Path.{_≡_}
@@ -11,10 +12,14 @@ use Rattle.field.specs.Fields.{Arithmetic}
 use Rattle.order.specs.Monomials.{unit, multiply}
 use Rattle.order.specs.Orders.{Compare}
 use Rattle.ideal.specs.Lists.{Each}
-use Rattle.ideal.specs.Polynomials.{Operations, Poly, Falling}
+use Rattle.ideal.specs.Divisibility.{quotient, to-lcm}
+use Rattle.ideal.specs.Polynomials.{Operations, Poly, Element, Falling}
 
 abbrev pub Raw : Type 0
 Raw = Poly ℕ (List ℕ)
+
+abbrev pub RawElement : Type 0
+RawElement = Element ℕ (List ℕ)
 
 abbrev pub ring : Arithmetic → ℕ → Compare → Operations ℕ (List ℕ)
 ring k n cmp = record {
@@ -23,9 +28,12 @@ ring k n cmp = record {
   plus = k .sum;
   negate = k .opposite;
   times = k .product;
+  inverse = k .inverse;
   is-zero = λ c. eqb c 0;
   unit = unit n;
   multiply = multiply;
+  quotient = quotient;
+  to-lcm = to-lcm;
   compare = cmp;
 }
 
