@@ -1,15 +1,18 @@
 // Every refusal once, by its five numbers: residues modulo 7, one variable, lex.
+ghost use Rattle.checker.specs.Checks.{Standing};
 use checker::Checker;
 use checker::Fault;
 use checker::FaultNumbers;
 use checker::FaultNumbersDebug;
 use checker::FaultNumbersPartialEq;
+use field::Field;
 use field::FieldFault;
 use field::FieldFaultDebug;
 use field::PrimeArithmetic;
 use field::PrimeField;
 use order::Lex;
 use order::LexOrder;
+use order::MonomialOrder;
 use std::test::*;
 
 fn five(
@@ -33,6 +36,29 @@ fn numbers(answer: Result<(), Fault>) -> Option<FaultNumbers> {
         Ok(()) => None,
         Err(fault) => Some(fault.numbers()),
     }
+}
+
+// Adds the generator 0 again and again: how many were taken before one was refused, and why it was.
+fn fill<F: Field + Drop, O: MonomialOrder + Drop>(
+    checker: &mut Checker<F, O>,
+) -> (usize, Option<FaultNumbers>)
+    requires { ⌜ Standing arithmetic comparison (now checker) ⌝ }
+    ensures { λ r. ⌜ Standing arithmetic comparison (now (checker .exit)) ⌝ }
+{
+    for taken in 0..40 {
+        if let Err(fault) = checker.add_generator(&[]) {
+            return (taken, Some(fault.numbers()));
+        }
+    }
+    (40, None)
+}
+
+#[test]
+fn thirty_two_generators(rt: LibcRuntime) -> Result<(), Fail> {
+    let mut checker = Checker::new(rt.alloc(), PrimeField::new(7)?, Lex)?;
+    let (taken, refusal) = fill(&mut checker);
+    check_eq(taken, 32)?;
+    check_eq(refusal, five(3, 4, 0, 0, 0))
 }
 
 #[test]
