@@ -138,3 +138,22 @@ fn fields() -> Result<(), Fail> {
         five(17, 1, 0, 0, 0),
     )
 }
+
+// x² + x − 2 and x² − 3x + 2 have the combination x − 1 with the cofactors ¼ and −¼: a textbook's example, modulo 7 and modulo 11.
+#[test]
+fn textbook_combination(rt: LibcRuntime) -> Result<(), Fail> {
+    let mut by_7 = Checker::new(rt.alloc(), PrimeField::new(7)?, Lex)?;
+    check_eq(numbers(by_7.add_generator(&[1, 2, 1, 1, 5, 0])), None)?;
+    check_eq(numbers(by_7.add_generator(&[1, 2, 4, 1, 2, 0])), None)?;
+    check_eq(
+        numbers(by_7.check_element(0, &[1, 1, 6, 0], &[2, 0, 5, 0], &[1, 1])),
+        None,
+    )?;
+    let mut by_11 = Checker::new(rt.alloc(), PrimeField::new(11)?, Lex)?;
+    check_eq(numbers(by_11.add_generator(&[1, 2, 1, 1, 9, 0])), None)?;
+    check_eq(numbers(by_11.add_generator(&[1, 2, 8, 1, 2, 0])), None)?;
+    check_eq(
+        numbers(by_11.check_element(0, &[1, 1, 10, 0], &[3, 0, 8, 0], &[1, 1])),
+        None,
+    )
+}

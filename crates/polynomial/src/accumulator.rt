@@ -45,7 +45,7 @@ impl Accumulator {
     pub fn terms(&self) -> &[Term]
         ensures { λ r. ⌜ now r ≡ vec-items (now (self .entry) .sum .terms) ⌝ }
     {
-        self.sum.terms()
+        Polynomial::terms(&self.sum)
     }
 
     // Begins again from 0.
