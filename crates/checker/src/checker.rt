@@ -1,7 +1,6 @@
 // Holds the generators, and checks offered basis elements against them.
 ghost use mathlib.Core.Path.{_≡_};
 ghost use mathlib.Core.List.{[]};
-ghost use Rattle.std.specs.Results.{Cases};
 ghost use Rattle.std.specs.Vec.{made};
 ghost use Rattle.polynomial.specs.Kept.{polynomials};
 ghost use Rattle.checker.specs.Combinations.{forgotten};
