@@ -1,0 +1,5 @@
+pub mod Ranks
+pub mod Bounded
+pub mod Turns
+pub mod Settling
+pub mod Progress
