@@ -4,6 +4,8 @@ ghost use Rattle.cases.specs.Worked.{Worked};
 #[cfg(test)]
 mod fields;
 #[cfg(test)]
+mod monomials;
+#[cfg(test)]
 mod orders;
 #[cfg(test)]
 mod refusals;

@@ -1,4 +1,5 @@
 pub mod Exponents
+pub mod Quotients
 pub mod Comparing
 pub mod Outcomes
 pub mod Viewing

@@ -15,6 +15,7 @@ pub use flaw::Limit;
 pub use flaw::TableSize;
 pub use list::PolynomialList;
 pub use monomial::Monomial;
+pub use monomial::multipliers;
 pub use polynomial::Polynomial;
 pub use ring::Ring;
 pub use term::Term;

@@ -5,7 +5,10 @@ ghost use Prim.Native.Nat.{_≤_};
 ghost use lib.ListN.{length};
 ghost use Rattle.order.specs.Monomials.{small};
 
+mod divide;
 mod methods;
+
+pub use divide::multipliers;
 
 pub const MOST_VARIABLES: usize = 24;
 

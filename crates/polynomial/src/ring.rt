@@ -5,6 +5,7 @@ mod codes;
 mod methods;
 mod sums;
 mod table;
+mod variables;
 
 #[derive(Drop)]
 pub struct Ring<F, O> {
