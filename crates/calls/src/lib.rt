@@ -1,4 +1,6 @@
 // The checker: the six calls.
+#![tactic(auto)]
+
 mod call;
 mod checker;
 mod sequence;

@@ -1,4 +1,6 @@
 // Worked examples, proved of the definitions, and tests of the code on outside numbers.
+#![tactic(auto)]
+
 ghost use Rattle.cases.specs.Worked.{Worked};
 
 #[cfg(test)]

@@ -1,4 +1,6 @@
 // Checks that an offered basis element is the stated combination of the generators.
+#![tactic(auto)]
+
 mod checker;
 mod combination;
 mod fault;

@@ -1,5 +1,7 @@
 // Checks one basis element from beginning to end, and says what it does: first as the office's program wrote it,
 // then with one cofactor damaged.
+#![tactic(auto)]
+
 mod show;
 mod walk;
 

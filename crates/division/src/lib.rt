@@ -1,4 +1,6 @@
 // Division and S-polynomials, within limits.
+#![tactic(auto)]
+
 mod coefficient;
 mod division;
 mod divisor;

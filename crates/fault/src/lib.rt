@@ -1,4 +1,6 @@
 // Why a call is refused, and the five numbers that say so.
+#![tactic(auto)]
+
 mod fault;
 mod numbers;
 

@@ -1,4 +1,6 @@
 // The arithmetic of small finite fields: prime fields and binary fields.
+#![tactic(auto)]
+
 mod binary;
 mod fault;
 mod field;

@@ -1,5 +1,7 @@
 // The algebra of polynomials, and what division by a basis decides: each function's contract is a theorem,
 // for every field and every monomial order.
+#![tactic(auto)]
+
 ghost use Rattle.ideal.specs.Algebra.{Always, Closed, SumCoefficients, MultipleCoefficients, Determined, Stepwise};
 ghost use Rattle.ideal.specs.Theorems.{MembersClosed, DivisionEnds, DivisionTheorem, Buchberger, CompletenessBothWays, Membership, OneRemainder};
 

@@ -70,7 +70,7 @@ split_lower : (n : ℕ) (a b : Monomial (suc n)) → Lower (suc n) a b → Prod.
 unfolding split
 split_lower n ([], p) b h = absurd (omega arith)
 split_lower n (x ∷ a, p) ([], q) h = absurd (omega arith)
-split_lower n (x ∷ a, p) (y ∷ b, q) h = ∣ Prod.Lexᴰ_def.1 (at (then_less (nat_cmp x y) (lex a b) h)) ∣₁
+split_lower n (x ∷ a, p) (y ∷ b, q) h = ∣ Prod.Lexᴰ-def.1 (at (then_less (nat_cmp x y) (lex a b) h)) ∣₁
   where
     at : (nat_cmp x y ≡ Less) ⊎ ((nat_cmp x y ≡ Equal) × (lex a b ≡ Less)) → (x < y) ⊎ ((x ≡ y) × (lex a b ≡ Less))
     at (inl e) = inl (rank_says x y Less e)

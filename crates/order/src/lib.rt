@@ -1,3 +1,5 @@
+#![tactic(auto)]
+
 mod degrees;
 mod exponents;
 mod graded;

@@ -1,4 +1,6 @@
 // Polynomials as data: monomials, terms, tables in, and sums that grow step by step within limits.
+#![tactic(auto)]
+
 mod accumulator;
 mod equality;
 mod flaw;

@@ -1,4 +1,6 @@
 // The six calls as definitions, the runs that are made of them, and the laws of every run.
+#![tactic(auto)]
+
 mod consoles;
 mod laws;
 mod state;

@@ -18,7 +18,7 @@ pub loop-exponent-preserved : goal.loop-exponent-preserved
 loop-exponent-preserved c =
     let m = c.args.monomial.now in
     let i = c.loop-exponent.exponent-index in
-    c.loop-exponent.invariant ∙ next m i true c.loop-exponent-test.true (le-leb (get_or m i 0) 255 c.if-exponent-gt-MOST-EXPONENT.false)
+    c.loop-exponent.invariant ∙ next m i true c.loop-exponent-test.true (le-leb (get_or m i 0) 255 c.if-exponent-gt-MOST_EXPONENT.false)
 
 pub returns : goal.returns
 returns c = sym (c.loop-exponent.invariant ∙ at_drop_all small c.args.monomial.now c.loop-exponent.exponent-index c.loop-exponent-test.false)

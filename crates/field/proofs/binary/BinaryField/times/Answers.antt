@@ -18,7 +18,7 @@ turn q n total a b =
       | false ↦ refl
     ]
 
-total_is : (c : goal.After-times-t-shifted) → c.if-bits-eq1.total ≡ with_share c.loop.total c.loop.shifted c.loop.bits
+total_is : (c : goal.After-times_t-shifted) → c.if-bits-eq1.total ≡ with_share c.loop.total c.loop.shifted c.loop.bits
 total_is c = elim c.if-bits-eq1.branch [ then-bits-eq1 w ↦ grind (arith, nat_tests) | else-bits-eq1 w ↦ grind (arith, nat_tests) ]
 
 pub loop-preserved : goal.loop-preserved
@@ -27,7 +27,7 @@ loop-preserved c =
     let l = c.loop in
     let n = 4 - (l.counter + 1) in
     let more : suc n ≡ 4 - l.counter = omega arith in
-    rw (c.times-t-shifted.ensures, total_is c) (
+    rw (c.times_t-shifted.ensures, total_is c) (
       times_t_code f.size f.listed (l.shifted, l.invariant.0),
       turn f.size n l.total l.shifted l.bits ∙ ap (λ m. bit_xor l.total (times f.size m l.shifted l.bits)) more ∙ l.invariant.1,
     )
