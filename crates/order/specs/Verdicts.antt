@@ -3,7 +3,7 @@ use Rattle.std.specs.Prelude.{◌≡◌, ℕ, ◌+◌, ◌<◌, ◌⊎◌, refl}
 use Rattle.std.specs.declared.cmp.Ordering.TheVariants.{Less, Equal, Greater}
 use Rattle.std.specs.declared.cmp.Ordering.{Ordering}
 use Rattle.std.proofs.Common.{subst, inl, inr, arith}
-use Rattle.std.specs.Cmp.{ranks, nat_cmp_total}
+use Rattle.std.specs.Cmp.{ranks, nat_cmp_is}
 use Rattle.std.specs.Ordering.{MatchOrdering, ordering_then, ordering_reverse, nat_cmp}
 
 pub rank_says : (x y : ℕ) (o : Ordering) → nat_cmp x y ≡ o → MatchOrdering o (x < y) (x ≡ y) (y < x)
@@ -16,7 +16,7 @@ balanced a b c d e Greater h = omega arith
 
 -- the same difference, the same verdict
 pub rank_balanced : (a b c d : ℕ) → a + d ≡ c + b → nat_cmp a b ≡ nat_cmp c d
-rank_balanced a b c d e = nat_cmp_total.says c d (nat_cmp a b) (balanced a b c d e (nat_cmp a b) (ranks a b))
+rank_balanced a b c d e = nat_cmp_is c d (nat_cmp a b) (balanced a b c d e (nat_cmp a b) (ranks a b))
 
 pub then_less : (o later : Ordering) → ordering_then o later ≡ Less → (o ≡ Less) ⊎ ((o ≡ Equal) × (later ≡ Less))
 then_less Less later h = inl refl

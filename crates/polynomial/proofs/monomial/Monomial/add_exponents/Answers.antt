@@ -13,8 +13,8 @@ overflow-add-exponent c =
 places : (a b : List ℕ) (i : ℕ) → length a ≡ 24 → length b ≡ 24 → i < 24 → (length (multiply a b) ≡ 24) × (get_or (multiply a b) i 0 ≡ get_or a i 0 + get_or b i 0)
 places a b i la lb h = (multiply-length a b (omega arith) ∙ la, multiply_at i a b (omega arith) (omega arith))
 
-pub returns-then-exponent-gt-MOST-EXPONENT : goal.returns-then-exponent-gt-MOST-EXPONENT
-returns-then-exponent-gt-MOST-EXPONENT c =
+pub returns-then-exponent-gt-MOST_EXPONENT : goal.returns-then-exponent-gt-MOST_EXPONENT
+returns-then-exponent-gt-MOST_EXPONENT c =
     let a = c.args.self.now.exponents in
     let b = c.args.other.now.exponents in
     let i = c.loop-i.i in

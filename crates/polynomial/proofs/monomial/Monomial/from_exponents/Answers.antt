@@ -5,8 +5,8 @@ use Rattle.order.specs.Monomials.{small}
 use Rattle.polynomial.proofs.Exponents.{small-set, small-more, small_fails, take-set-more}
 use Rattle.polynomial.proofs.monomial.Monomial.from_exponents.Goals as goal
 
-pub returns-then-exponent-gt-MOST-EXPONENT : goal.returns-then-exponent-gt-MOST-EXPONENT
-returns-then-exponent-gt-MOST-EXPONENT c =
+pub returns-then-exponent-gt-MOST_EXPONENT : goal.returns-then-exponent-gt-MOST_EXPONENT
+returns-then-exponent-gt-MOST_EXPONENT c =
     let row = c.args.row.now in
     let all : take (length row) row ≡ row = take_all (length row) row (omega arith) in
     and_right (leb (length row) 24) (small row) (ap small (sym all) ∙ small_fails (length row) c.loop-i.i row (omega arith) (omega arith) (omega arith))
