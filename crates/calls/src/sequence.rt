@@ -22,8 +22,8 @@ fn reply_to(answer: Result<(), Fault>) -> Reply
 impl<F: Field + Drop, O: MonomialOrder + Drop> Checker<F, O> {
     // Makes one call; a question writes into the result table.
     pub fn call(&mut self, call: &Call, res: &mut [u16]) -> Reply
-        requires { Stands arithmetic comparison self.old }
-        ensures promise { Promise arithmetic comparison self.old (request call.now res.old) (spoken result res.new) self.new }
+        requires { Stands F.arithmetic O.comparison self.old }
+        ensures promise { Promise F.arithmetic O.comparison self.old (request call.now res.old) (spoken result res.new) self.new }
         ensures table { res.new ≡ left_by (spoken result res.new) res.old }
     {
         match *call {
@@ -52,7 +52,7 @@ pub fn run_calls<F: Field + Drop, O: MonomialOrder + Drop>(
     calls: &[Call],
     res: &mut [u16],
 ) -> Result<Vec<Reply>, AllocError>
-    ensures { IfOk result (λ replies. Sequence (arithmetic field) (comparison order) calls.now res.old replies.items res.new) }
+    ensures { IfOk result (λ replies. Sequence (F.arithmetic field) (O.comparison order) calls.now res.old replies.items res.new) }
 {
     let mut checker = Checker::new(heap, field, order)?;
     let mut replies = Vec::with_capacity(heap, calls.len())?;

@@ -59,7 +59,7 @@ fn read<F: Field, O: MonomialOrder>(
     heap: Global,
     text: &str,
 ) -> Result<Polynomial, Fail>
-    ensures within { IfOk result (λ p. Within arithmetic comparison ring.now (view p.terms.items)) }
+    ensures within { IfOk result (λ p. Within F.arithmetic O.comparison ring.now (view p.terms.items)) }
     ensures few { IfOk result (λ p. length p.terms.items ≤ 32) }
 {
     let table = table_of(heap, ring.variables(), text)?;
@@ -76,7 +76,7 @@ fn read_list<F: Field, O: MonomialOrder>(
     heap: Global,
     texts: &[&str],
 ) -> Result<PolynomialList, Fail>
-    ensures { IfOk result (λ l. Each (Within arithmetic comparison ring.now) (polynomials l)) }
+    ensures { IfOk result (λ l. Each (Within F.arithmetic O.comparison ring.now) (polynomials l)) }
 {
     let mut list = PolynomialList::new(heap)?;
     for text in texts {

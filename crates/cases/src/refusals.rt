@@ -33,8 +33,8 @@ fn numbers(answer: Result<(), Fault>) -> Option<FaultNumbers> {
 fn fill<F: Field + Drop, O: MonomialOrder + Drop>(
     checker: &mut Checker<F, O>,
 ) -> (usize, Option<FaultNumbers>)
-    requires { Standing arithmetic comparison checker.old }
-    ensures { Standing arithmetic comparison checker.new }
+    requires { Standing F.arithmetic O.comparison checker.old }
+    ensures { Standing F.arithmetic O.comparison checker.new }
 {
     for taken in 0..40 {
         if let Err(fault) = checker.add_generator(&[]) {

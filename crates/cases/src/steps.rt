@@ -24,11 +24,11 @@ fn add_leading<F: Field, O: MonomialOrder>(
     p: &[Term],
     sum: &mut Accumulator,
 ) -> Step
-    requires factor { Within arithmetic comparison ring.now (view factor.now) }
-    requires within { Within arithmetic comparison ring.now (view p.now) }
+    requires factor { Within F.arithmetic O.comparison ring.now (view factor.now) }
+    requires within { Within F.arithmetic O.comparison ring.now (view p.now) }
     requires few { length p.now ≤ 512 }
-    requires sum { Within arithmetic comparison ring.now (view sum.old.sum.terms.items) }
-    ensures { Within arithmetic comparison ring.now (view sum.new.sum.terms.items) }
+    requires sum { Within F.arithmetic O.comparison ring.now (view sum.old.sum.terms.items) }
+    ensures { Within F.arithmetic O.comparison ring.now (view sum.new.sum.terms.items) }
 {
     if factor.is_empty() {
         return Step::NoFactor;
@@ -48,8 +48,8 @@ fn read_and_step<F: Field, O: MonomialOrder>(
     table: &[u16],
     sum: &mut Accumulator,
 ) -> Result<Step, AllocError>
-    requires sum { Within arithmetic comparison ring.now (view sum.old.sum.terms.items) }
-    ensures { Within arithmetic comparison ring.now (view sum.new.sum.terms.items) }
+    requires sum { Within F.arithmetic O.comparison ring.now (view sum.old.sum.terms.items) }
+    ensures { Within F.arithmetic O.comparison ring.now (view sum.new.sum.terms.items) }
 {
     let mut first = Polynomial::new(heap)?;
     let mut second = Polynomial::new(heap)?;

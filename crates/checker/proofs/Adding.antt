@@ -1,5 +1,5 @@
 -- The products of cofactors and generators, added one after another. Assumes nothing.
-use Rattle.std.proofs.Common.{◌≡◌, ℕ, zero, suc, ◌+◌, ◌<◌, List, [], ◌∷◌, length, get_or, drop, Ok, Err, Result, sym, refl, ap, ◌∙◌, ap₂, add_one, arith}
+use Rattle.std.proofs.Common.{◌≡◌, ℕ, zero, suc, ◌+◌, ◌<◌, List, [], ◌∷◌, length, get_or, drop, Ok, Err, Result, sym, refl, ap, ◌∙◌, ap₂, add-one, arith}
 use Rattle.std.proofs.lemmas.List.{drop_more}
 use Rattle.field.specs.Fields.{Arithmetic}
 use Rattle.order.specs.Orders.{Compare}
@@ -39,7 +39,7 @@ add_term o i j a t p f h r s known at stepped is =
     ap (λ (x : Result (Unit {0}) ArithmeticFault). answered x h) is ∙ answered-because (stopped (CofactorTerm i j)) r h ∙ ap (because (stopped (CofactorTerm i j))) stepped in
     ap (λ ts. add_terms o i j ts p f) (view_at j a t known at)
     ∙ ap (λ (x : Result Raw ArithmeticFault). x >>= add_terms o i (suc j) (view (drop (j + 1) a)) p) (sym went)
-    ∙ ap (λ z. answered s h >>= add_terms o i z (view (drop (j + 1) a)) p) (sym (add_one j))
+    ∙ ap (λ z. answered s h >>= add_terms o i z (view (drop (j + 1) a)) p) (sym (add-one j))
 
 module _ (k : Arithmetic) (n : ℕ) (cmp : Compare) where
   -- the cofactors from number i on, all read first, and then their products added to f
@@ -71,4 +71,4 @@ module _ (k : Arithmetic) (n : ℕ) (cmp : Compare) where
       ap₂ (λ ps gs. sum_from i ps gs f) is (drop_more generators i [] known)
       ∙ sum_more i part parts (get_or generators i []) (drop (i + 1) generators) f (ap (λ ps. forgotten (read_cofactors k n cmp i ps)) (sym is) ∙ checked)
       ∙ ap (λ (x : Result Raw Fault). x >>= sum_from (suc i) parts (drop (i + 1) generators)) (sym e)
-      ∙ ap (λ j. r >>= sum_from j parts (drop (i + 1) generators)) (sym (add_one i))
+      ∙ ap (λ j. r >>= sum_from j parts (drop (i + 1) generators)) (sym (add-one i))

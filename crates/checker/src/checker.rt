@@ -25,7 +25,7 @@ pub struct Checker<F, O> {
 impl<F: Field + Drop, O: MonomialOrder + Drop> Checker<F, O> {
     // No generators yet, one variable, and all the memory that a call will ever take.
     pub fn new(heap: Global, field: F, order: O) -> Result<Checker<F, O>, AllocError>
-        ensures standing { IfOk result (λ c. Standing arithmetic comparison c) }
+        ensures standing { IfOk result (λ c. Standing F.arithmetic O.comparison c) }
         ensures empty { IfOk result (λ c. (polynomials c.generators ≡ []) × (c.ring.field ≡ field) × (c.ring.order ≡ order) × (c.ring.variables ≡ 1)) }
     {
         let generators = PolynomialList::new(heap)?;
@@ -44,9 +44,9 @@ impl<F: Field + Drop, O: MonomialOrder + Drop> Checker<F, O> {
 
     // One generator more, from its table.
     pub fn add_generator(&mut self, table: &[u16]) -> Result<(), Fault>
-        requires standing { Standing arithmetic comparison self.old }
-        ensures standing { Standing arithmetic comparison self.new }
-        ensures value { (result, polynomials self.new.generators) ≡ after (polynomials self.old.generators) (add_generator (arithmetic self.old.ring.field) self.old.ring.variables (comparison self.old.ring.order) (polynomials self.old.generators) table.now) }
+        requires standing { Standing F.arithmetic O.comparison self.old }
+        ensures standing { Standing F.arithmetic O.comparison self.new }
+        ensures value { (result, polynomials self.new.generators) ≡ after (polynomials self.old.generators) (add_generator (F.arithmetic self.old.ring.field) self.old.ring.variables (O.comparison self.old.ring.order) (polynomials self.old.generators) table.now) }
         ensures ring { self.new.ring ≡ self.old.ring }
     {
         let number = self.generators.len();
@@ -69,8 +69,8 @@ impl<F: Field + Drop, O: MonomialOrder + Drop> Checker<F, O> {
         cofactors: &[u16],
         counts: &[u16],
     ) -> Result<(), Fault>
-        requires standing { Standing arithmetic comparison self.old }
-        ensures value { result ≡ forgotten (check_element (arithmetic self.old.ring.field) self.old.ring.variables (comparison self.old.ring.order) (polynomials self.old.generators) number table.now cofactors.now counts.now) }
+        requires standing { Standing F.arithmetic O.comparison self.old }
+        ensures value { result ≡ forgotten (check_element (F.arithmetic self.old.ring.field) self.old.ring.variables (O.comparison self.old.ring.order) (polynomials self.old.generators) number table.now cofactors.now counts.now) }
         ensures ring { self.new.ring ≡ self.old.ring }
         ensures generators { self.new.generators ≡ self.old.generators }
     {
@@ -111,10 +111,10 @@ impl<F: Field + Drop, O: MonomialOrder + Drop> Checker<F, O> {
         cofactors: &[u16],
         counts: &[u16],
     ) -> Result<(), Fault>
-        requires standing { Standing arithmetic comparison self.old }
-        ensures standing { Standing arithmetic comparison self.new }
-        ensures value { result ≡ forgotten (check_element (arithmetic self.old.ring.field) self.old.ring.variables (comparison self.old.ring.order) (polynomials self.old.generators) number table.now cofactors.now counts.now) }
-        ensures verdict { Verdict (arithmetic self.old.ring.field) self.old.ring.variables (comparison self.old.ring.order) (polynomials self.old.generators) number table.now cofactors.now counts.now result }
+        requires standing { Standing F.arithmetic O.comparison self.old }
+        ensures standing { Standing F.arithmetic O.comparison self.new }
+        ensures value { result ≡ forgotten (check_element (F.arithmetic self.old.ring.field) self.old.ring.variables (O.comparison self.old.ring.order) (polynomials self.old.generators) number table.now cofactors.now counts.now) }
+        ensures verdict { Verdict (F.arithmetic self.old.ring.field) self.old.ring.variables (O.comparison self.old.ring.order) (polynomials self.old.generators) number table.now cofactors.now counts.now result }
         ensures ring { self.new.ring ≡ self.old.ring }
         ensures generators { self.new.generators ≡ self.old.generators }
     {

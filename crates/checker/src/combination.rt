@@ -41,7 +41,7 @@ fn read_cofactor<F: Field, O: MonomialOrder>(
     part: &[u16],
     out: &mut Polynomial,
 ) -> Result<(), TableFault>
-    ensures value { answered result (view out.new.terms.items) ≡ read_cofactor (arithmetic ring.now.field) ring.now.variables (comparison ring.now.order) number part.now }
+    ensures value { answered result (view out.new.terms.items) ≡ read_cofactor (F.arithmetic ring.now.field) ring.now.variables (O.comparison ring.now.order) number part.now }
 {
     in_table(
         Place::Cofactor(number),
@@ -57,12 +57,12 @@ fn add_terms<F: Field, O: MonomialOrder>(
     generator: &[Term],
     sum: &mut Accumulator,
 ) -> Result<(), ArithmeticFault>
-    requires cofactor { Within arithmetic comparison ring.now (view cofactor.now) }
-    requires generator { Within arithmetic comparison ring.now (view generator.now) }
+    requires cofactor { Within F.arithmetic O.comparison ring.now (view cofactor.now) }
+    requires generator { Within F.arithmetic O.comparison ring.now (view generator.now) }
     requires few { length generator.now ≤ 512 }
-    requires sum { Within arithmetic comparison ring.now (view sum.old.sum.terms.items) }
-    ensures value { answered result (view sum.new.sum.terms.items) ≡ add_terms (over arithmetic comparison ring.now) number 0 (view cofactor.now) (view generator.now) (view sum.old.sum.terms.items) }
-    ensures within { Within arithmetic comparison ring.now (view sum.new.sum.terms.items) }
+    requires sum { Within F.arithmetic O.comparison ring.now (view sum.old.sum.terms.items) }
+    ensures value { answered result (view sum.new.sum.terms.items) ≡ add_terms (over F.arithmetic O.comparison ring.now) number 0 (view cofactor.now) (view generator.now) (view sum.old.sum.terms.items) }
+    ensures within { Within F.arithmetic O.comparison ring.now (view sum.new.sum.terms.items) }
 {
     for (term, factor) in cofactor.iter().enumerate() {
         in_work(
@@ -106,7 +106,7 @@ pub(crate) fn check_cofactors<F: Field, O: MonomialOrder>(
     scratch: &mut Polynomial,
 ) -> Result<(), TableFault>
     requires whole { length table.now ≡ total counts.now * suc ring.now.variables }
-    ensures { result ≡ forgotten (read_cofactors (arithmetic ring.now.field) ring.now.variables (comparison ring.now.order) 0 (cut (sizes ring.now.variables counts.now) table.now)) }
+    ensures { result ≡ forgotten (read_cofactors (F.arithmetic ring.now.field) ring.now.variables (O.comparison ring.now.order) 0 (cut (sizes ring.now.variables counts.now) table.now)) }
 {
     let stride = ring.variables() + 1;
     let mut unread = table;
@@ -128,10 +128,10 @@ fn add_cofactor<F: Field, O: MonomialOrder>(
     sum: &mut Accumulator,
 ) -> Result<(), Fault>
     requires known { number < length (polynomials generators.now) }
-    requires generators { Each (Within arithmetic comparison ring.now) (polynomials generators.now) }
-    requires sum { Within arithmetic comparison ring.now (view sum.old.sum.terms.items) }
-    ensures value { answered result (view sum.new.sum.terms.items) ≡ sum_cofactor (arithmetic ring.now.field) ring.now.variables (comparison ring.now.order) number part.now (slice_index_or (polynomials generators.now) number []) (view sum.old.sum.terms.items) }
-    ensures within { Within arithmetic comparison ring.now (view sum.new.sum.terms.items) }
+    requires generators { Each (Within F.arithmetic O.comparison ring.now) (polynomials generators.now) }
+    requires sum { Within F.arithmetic O.comparison ring.now (view sum.old.sum.terms.items) }
+    ensures value { answered result (view sum.new.sum.terms.items) ≡ sum_cofactor (F.arithmetic ring.now.field) ring.now.variables (O.comparison ring.now.order) number part.now (slice_index_or (polynomials generators.now) number []) (view sum.old.sum.terms.items) }
+    ensures within { Within F.arithmetic O.comparison ring.now (view sum.new.sum.terms.items) }
 {
     read_cofactor(ring, number, part, scratch)?;
     let Some(generator) = generators.get(number) else {
@@ -152,9 +152,9 @@ pub(crate) fn add_cofactors<F: Field, O: MonomialOrder>(
 ) -> Result<(), Fault>
     requires whole { length table.now ≡ total counts.now * suc ring.now.variables }
     requires counted { length counts.now ≡ length (polynomials generators.now) }
-    requires checked { forgotten (read_cofactors (arithmetic ring.now.field) ring.now.variables (comparison ring.now.order) 0 (cut (sizes ring.now.variables counts.now) table.now)) ≡ Ok tt }
-    requires generators { Each (Within arithmetic comparison ring.now) (polynomials generators.now) }
-    ensures { answered result (view sum.new.sum.terms.items) ≡ sum_cofactors (arithmetic ring.now.field) ring.now.variables (comparison ring.now.order) (cut (sizes ring.now.variables counts.now) table.now) (polynomials generators.now) }
+    requires checked { forgotten (read_cofactors (F.arithmetic ring.now.field) ring.now.variables (O.comparison ring.now.order) 0 (cut (sizes ring.now.variables counts.now) table.now)) ≡ Ok tt }
+    requires generators { Each (Within F.arithmetic O.comparison ring.now) (polynomials generators.now) }
+    ensures { answered result (view sum.new.sum.terms.items) ≡ sum_cofactors (F.arithmetic ring.now.field) ring.now.variables (O.comparison ring.now.order) (cut (sizes ring.now.variables counts.now) table.now) (polynomials generators.now) }
 {
     sum.clear();
     let stride = ring.variables() + 1;

@@ -1,5 +1,5 @@
 -- The table of the cofactors, a part at a time. Assumes nothing.
-use Rattle.std.proofs.Common.{◌≡◌, ℕ, suc, ◌+◌, ◌*◌, ◌<◌, ◌≤◌, List, ◌∷◌, length, get_or, take, drop, Ok, Err, Result, sym, refl, ap, ◌∙◌, ap₂, add-mul, add_one, arith}
+use Rattle.std.proofs.Common.{◌≡◌, ℕ, suc, ◌+◌, ◌*◌, ◌<◌, ◌≤◌, List, ◌∷◌, length, get_or, take, drop, Ok, Err, Result, sym, refl, ap, ◌∙◌, ap₂, add-mul, add-one, arith}
 use Rattle.std.proofs.lemmas.List.{drop_more}
 use Rattle.field.specs.Fields.{Arithmetic}
 use Rattle.order.specs.Orders.{Compare, OrderLaws}
@@ -31,7 +31,7 @@ module _ (k : Arithmetic) (n : ℕ) (cmp : Compare) where
       ap (λ ps. forgotten (read_cofactors k n cmp i ps)) is
       ∙ ap (λ (r : Result Raw TableFault). forgotten (r >>= λ a. read_cofactors k n cmp (suc i) parts >>= λ more. Ok (a ∷ more))) (sym e)
       ∙ ends r (read_cofactors k n cmp (suc i) parts)
-      ∙ ap (λ j. r >>= λ _. forgotten (read_cofactors k n cmp j parts)) (sym (add_one i))
+      ∙ ap (λ j. r >>= λ _. forgotten (read_cofactors k n cmp j parts)) (sym (add-one i))
     where
       ends : (r : Result Raw TableFault) (rest : Result (List Raw) TableFault) → forgotten (r >>= λ a. rest >>= λ more. Ok (a ∷ more)) ≡ (r >>= λ _. forgotten rest)
       ends (Ok a) (Ok more) = refl
@@ -46,7 +46,7 @@ module _ (k : Arithmetic) (n : ℕ) (cmp : Compare) where
 -- the part of cofactor number i, which has c terms of v + 1 numbers, and what is left behind it
 module _ (n : ℕ) (counts : List ℕ) (i c v : ℕ) (rest : List ℕ) (known : i < length counts) (count : c ≡ get_or counts i 0) (width : v ≡ n) (whole : length rest ≡ total (drop i counts) * suc n) where
   size : c * (v + 1) ≡ get_or counts i 0 * suc n
-  size = ap₂ (λ x y. x * (y + 1)) count width ∙ ap (λ z. get_or counts i 0 * z) (add_one n)
+  size = ap₂ (λ x y. x * (y + 1)) count width ∙ ap (λ z. get_or counts i 0 * z) (add-one n)
 
   numbers : length rest ≡ c * (v + 1) + total (drop (i + 1) counts) * suc n
   numbers = whole ∙ ap (λ cs. total cs * suc n) (drop_more counts i 0 known) ∙ add-mul (get_or counts i 0) (total (drop (i + 1) counts)) (suc n)

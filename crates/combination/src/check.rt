@@ -53,9 +53,9 @@ impl ElementCheck {
         cofactors: &[u16],
         counts: &[u16],
     ) -> Result<(), Fault>
-        requires { Each (Within arithmetic comparison ring.now) (polynomials generators.now) }
-        ensures value { answered result (view self.new.element.terms.items) ≡ check_element (arithmetic ring.now.field) ring.now.variables (comparison ring.now.order) (polynomials generators.now) number table.now cofactors.now counts.now }
-        ensures within { OnOk result (Within arithmetic comparison ring.now (view self.new.element.terms.items)) }
+        requires { Each (Within F.arithmetic O.comparison ring.now) (polynomials generators.now) }
+        ensures value { answered result (view self.new.element.terms.items) ≡ check_element (F.arithmetic ring.now.field) ring.now.variables (O.comparison ring.now.order) (polynomials generators.now) number table.now cofactors.now counts.now }
+        ensures within { OnOk result (Within F.arithmetic O.comparison ring.now (view self.new.element.terms.items)) }
         ensures few { OnOk result (length self.new.element.terms.items ≤ 32) }
     {
         in_table(
@@ -97,10 +97,10 @@ impl ElementCheck {
         cofactors: &[u16],
         counts: &[u16],
     ) -> Result<(), Fault>
-        requires { Each (Within arithmetic comparison ring.now) (polynomials generators.now) }
-        ensures value { answered result (view self.new.element.terms.items) ≡ check_element (arithmetic ring.now.field) ring.now.variables (comparison ring.now.order) (polynomials generators.now) number table.now cofactors.now counts.now }
-        ensures verdict { Verdict (arithmetic ring.now.field) ring.now.variables (comparison ring.now.order) (polynomials generators.now) number table.now cofactors.now counts.now result }
-        ensures within { OnOk result (Within arithmetic comparison ring.now (view self.new.element.terms.items)) }
+        requires { Each (Within F.arithmetic O.comparison ring.now) (polynomials generators.now) }
+        ensures value { answered result (view self.new.element.terms.items) ≡ check_element (F.arithmetic ring.now.field) ring.now.variables (O.comparison ring.now.order) (polynomials generators.now) number table.now cofactors.now counts.now }
+        ensures verdict { Verdict (F.arithmetic ring.now.field) ring.now.variables (O.comparison ring.now.order) (polynomials generators.now) number table.now cofactors.now counts.now result }
+        ensures within { OnOk result (Within F.arithmetic O.comparison ring.now (view self.new.element.terms.items)) }
         ensures few { OnOk result (length self.new.element.terms.items ≤ 32) }
     {
         self.examine(ring, generators, number, table, cofactors, counts)

@@ -31,7 +31,7 @@ fn read_and_tell<F: Field, O: MonomialOrder>(
     table: &[u16],
     out: &mut Polynomial,
 ) -> anyhow::Result<()>
-    ensures within { OnOk result (Within arithmetic comparison ring.now (view out.new.terms.items)) }
+    ensures within { OnOk result (Within F.arithmetic O.comparison ring.now (view out.new.terms.items)) }
     ensures few { OnOk result (length out.new.terms.items ≤ 32) }
 {
     let Ok(()) = ring.read(TableSize::Short, table, out) else {
@@ -50,11 +50,11 @@ fn add_and_tell<F: Field, O: MonomialOrder>(
     generator: &[Term],
     sum: &mut Accumulator,
 ) -> anyhow::Result<()>
-    requires cofactor { Within arithmetic comparison ring.now (view cofactor.now) }
-    requires generator { Within arithmetic comparison ring.now (view generator.now) }
+    requires cofactor { Within F.arithmetic O.comparison ring.now (view cofactor.now) }
+    requires generator { Within F.arithmetic O.comparison ring.now (view generator.now) }
     requires few { length generator.now ≤ 512 }
-    requires sum { Within arithmetic comparison ring.now (view sum.old.sum.terms.items) }
-    ensures { Within arithmetic comparison ring.now (view sum.new.sum.terms.items) }
+    requires sum { Within F.arithmetic O.comparison ring.now (view sum.old.sum.terms.items) }
+    ensures { Within F.arithmetic O.comparison ring.now (view sum.new.sum.terms.items) }
 {
     for i in 0..cofactor.len() {
         let Ok(()) = sum.add(ring, 0, &cofactor[i], generator) else {

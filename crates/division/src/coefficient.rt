@@ -7,7 +7,7 @@ use field::Field;
 
 // The opposite of 1 / b.
 pub(crate) fn opposite_inverse<F: Field>(field: &F, b: u16) -> Option<u16>
-    ensures { result ≡ inverted (arithmetic field.now).size (opposite_inverse (arithmetic field.now)) b }
+    ensures { result ≡ inverted (F.arithmetic field.now).size (opposite_inverse (F.arithmetic field.now)) b }
 {
     let inverse = field.inverse(b)?;
     field.opposite(inverse)
@@ -15,7 +15,7 @@ pub(crate) fn opposite_inverse<F: Field>(field: &F, b: u16) -> Option<u16>
 
 // The opposite of a / b.
 pub(crate) fn opposite_quotient<F: Field>(field: &F, a: u16, b: u16) -> Option<u16>
-    ensures { result ≡ opposite_quotient (arithmetic field.now) a b }
+    ensures { result ≡ opposite_quotient (F.arithmetic field.now) a b }
 {
     let inverse = field.inverse(b)?;
     let quotient = field.product(a, inverse)?;

@@ -1,5 +1,5 @@
 -- A list cut into parts by counts, a part at a time. Assumes nothing.
-use Rattle.std.proofs.Common.{◌≡◌, ℕ, zero, suc, ◌+◌, ◌*◌, ◌<◌, ◌≤◌, true, leb, List, [], ◌∷◌, ◌++◌, length, get_or, take, drop, sym, refl, ap, ◌∙◌, ap₂, add_one, arith}
+use Rattle.std.proofs.Common.{◌≡◌, ℕ, zero, suc, ◌+◌, ◌*◌, ◌<◌, ◌≤◌, true, leb, List, [], ◌∷◌, ◌++◌, length, get_or, take, drop, sym, refl, ap, ◌∙◌, ap₂, add-one, arith}
 use Rattle.std.proofs.lemmas.List.{length-drop, nil_from_length, take_all, take-append-le, drop-append-le, drop-drop}
 use Rattle.std.proofs.lemmas.Bool.{le-leb, leb-true, and_parts, and_from}
 use Rattle.polynomial.specs.Cuts.{total, each_short, cut}
@@ -11,7 +11,7 @@ total_push [] n = omega arith
 total_push (c ∷ counts) n = let e = total_push counts n in omega arith
 
 pub total_take_more : (counts : List ℕ) (i : ℕ) → i < length counts → total (take (i + 1) counts) ≡ total (take i counts) + get_or counts i 0
-total_take_more counts i h = rw (add_one i) (at counts i h)
+total_take_more counts i h = rw (add-one i) (at counts i h)
   where
     at : (counts : List ℕ) (i : ℕ) → i < length counts → total (take (suc i) counts) ≡ total (take i counts) + get_or counts i 0
     at [] i h = absurd (omega arith)

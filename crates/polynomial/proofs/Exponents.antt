@@ -1,5 +1,5 @@
 -- Lists of exponents, a place at a time. Assumes nothing.
-use Rattle.std.proofs.Common.{◌≡◌, ℕ, zero, suc, ◌+◌, ◌-◌, ◌<◌, ◌≤◌, true, false, leb, List, [], ◌∷◌, length, get_or, take, set, refl, ap, ◌∙◌, add_one, arith}
+use Rattle.std.proofs.Common.{◌≡◌, ℕ, zero, suc, ◌+◌, ◌-◌, ◌<◌, ◌≤◌, true, false, leb, List, [], ◌∷◌, length, get_or, take, set, refl, ap, ◌∙◌, add-one, arith}
 use Rattle.std.proofs.lemmas.Bool.{le-leb, lt-leb, leb-true, and_parts, and_from, and_left, and_right}
 use Rattle.order.specs.Monomials.{multiply, small}
 
@@ -48,7 +48,7 @@ small-set zero v (x ∷ xs) h s = and_from (leb v 255) (small xs) (le-leb v 255 
 small-set (suc i) v (x ∷ xs) h s = let (a, b) = and_parts (leb x 255) (small xs) s in and_from (leb x 255) (small (set xs i v)) a (small-set i v xs h b)
 
 pub small-more : (i : ℕ) (xs : List ℕ) → i < length xs → get_or xs i 0 ≤ 255 → small (take i xs) ≡ true → small (take (i + 1) xs) ≡ true
-small-more i xs h k s = rw (add_one i) (at i xs h k s)
+small-more i xs h k s = rw (add-one i) (at i xs h k s)
   where
     at : (i : ℕ) (xs : List ℕ) → i < length xs → get_or xs i 0 ≤ 255 → small (take i xs) ≡ true → small (take (suc i) xs) ≡ true
     at i [] h k s = refl
@@ -63,7 +63,7 @@ small_fails (suc n) (suc i) (x ∷ xs) l h k = and_right (leb x 255) (small (tak
 
 -- a front that one more written place makes longer
 pub take-set-more : (i v : ℕ) (es xs : List ℕ) → i < length es → i < length xs → v ≡ get_or xs i 0 → take i es ≡ take i xs → take (i + 1) (set es i v) ≡ take (i + 1) xs
-take-set-more i v es xs h k e t = rw (add_one i) (at i es xs h k e t)
+take-set-more i v es xs h k e t = rw (add-one i) (at i es xs h k e t)
   where
     at : (i : ℕ) (es xs : List ℕ) → i < length es → i < length xs → v ≡ get_or xs i 0 → take i es ≡ take i xs → take (suc i) (set es i v) ≡ take (suc i) xs
     at i [] xs h k e t = absurd (omega arith)

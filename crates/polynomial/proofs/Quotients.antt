@@ -1,5 +1,5 @@
 -- Division of lists of exponents, a place at a time. Assumes nothing.
-use Rattle.std.proofs.Common.{◌≡◌, ℕ, zero, suc, ◌+◌, ◌-◌, ◌<◌, ◌≤◌, true, false, leb, List, [], ◌∷◌, length, get_or, take, refl, ap, add_one, arith}
+use Rattle.std.proofs.Common.{◌≡◌, ℕ, zero, suc, ◌+◌, ◌-◌, ◌<◌, ◌≤◌, true, false, leb, List, [], ◌∷◌, length, get_or, take, refl, ap, add-one, arith}
 use Rattle.std.proofs.lemmas.Bool.{le-leb, lt-leb, and_parts, and_from, and_left, and_right}
 use Rattle.ideal.specs.Divisibility.{divides, to_lcm}
 
@@ -27,7 +27,7 @@ to_lcm-length (x ∷ xs) [] h = absurd (omega arith)
 to_lcm-length (x ∷ xs) (y ∷ ys) h = ap suc (to_lcm-length xs ys (omega arith))
 
 pub divides-more : (i : ℕ) (xs ys : List ℕ) → i < length xs → i < length ys → get_or xs i 0 ≤ get_or ys i 0 → divides (take i xs) (take i ys) ≡ true → divides (take (i + 1) xs) (take (i + 1) ys) ≡ true
-divides-more i xs ys h k l e = rw (add_one i) (at i xs ys h k l e)
+divides-more i xs ys h k l e = rw (add-one i) (at i xs ys h k l e)
   where
     at : (i : ℕ) (xs ys : List ℕ) → i < length xs → i < length ys → get_or xs i 0 ≤ get_or ys i 0 → divides (take i xs) (take i ys) ≡ true → divides (take (suc i) xs) (take (suc i) ys) ≡ true
     at i [] ys h k l e = refl

@@ -72,13 +72,13 @@ impl Accumulator {
         factor: &Term,
         p: &[Term],
     ) -> Result<(), Limit>
-        requires factor { Factor arithmetic ring.now (term_of factor.now) }
-        requires within { Within arithmetic comparison ring.now (view p.now) }
+        requires factor { Factor F.arithmetic ring.now (term_of factor.now) }
+        requires within { Within F.arithmetic O.comparison ring.now (view p.now) }
         requires few { length p.now ≤ 512 }
-        requires sum { Within arithmetic comparison ring.now (view self.old.sum.terms.items) }
-        ensures value { answered result (view self.new.sum.terms.items) ≡ step (over arithmetic comparison ring.now) beside (term_of factor.now) (view p.now) (view self.old.sum.terms.items) }
-        ensures sum { MatchResult result (λ _. view self.new.sum.terms.items ≡ sum (over arithmetic comparison ring.now) (multiple (over arithmetic comparison ring.now) (term_of factor.now) (view p.now)) (view self.old.sum.terms.items)) (λ _. self.new.sum.terms.items ≡ self.old.sum.terms.items) }
-        ensures within { Within arithmetic comparison ring.now (view self.new.sum.terms.items) }
+        requires sum { Within F.arithmetic O.comparison ring.now (view self.old.sum.terms.items) }
+        ensures value { answered result (view self.new.sum.terms.items) ≡ step (over F.arithmetic O.comparison ring.now) beside (term_of factor.now) (view p.now) (view self.old.sum.terms.items) }
+        ensures sum { MatchResult result (λ _. view self.new.sum.terms.items ≡ sum (over F.arithmetic O.comparison ring.now) (multiple (over F.arithmetic O.comparison ring.now) (term_of factor.now) (view p.now)) (view self.old.sum.terms.items)) (λ _. self.new.sum.terms.items ≡ self.old.sum.terms.items) }
+        ensures within { Within F.arithmetic O.comparison ring.now (view self.new.sum.terms.items) }
     {
         ring.add_multiple(
             beside,

@@ -20,10 +20,10 @@ use run::CallKind;
 impl<F: Field + Drop, O: MonomialOrder + Drop> Checker<F, O> {
     // Divides the polynomial of a question's table.
     fn divide_question(&mut self, table: &[u16]) -> Result<(), Fault>
-        requires { Stands arithmetic comparison self.old }
-        ensures value { answered result (view self.new.division.remainder.terms.items) ≡ remainder_asked (arithmetic self.old.ring.field) (comparison self.old.ring.order) (shown self.old) table.now }
+        requires { Stands F.arithmetic O.comparison self.old }
+        ensures value { answered result (view self.new.division.remainder.terms.items) ≡ remainder_asked (F.arithmetic self.old.ring.field) (O.comparison self.old.ring.order) (shown self.old) table.now }
         ensures same { Same self.old self.new }
-        ensures within { OnOk result (Within arithmetic comparison self.old.ring (view self.new.division.remainder.terms.items)) }
+        ensures within { OnOk result (Within F.arithmetic O.comparison self.old.ring (view self.new.division.remainder.terms.items)) }
         ensures few { OnOk result (length self.new.division.remainder.terms.items ≤ 512) }
     {
         self.enter(CallKind::Question)?;
@@ -54,8 +54,8 @@ impl<F: Field + Drop, O: MonomialOrder + Drop> Checker<F, O> {
 
     // Writes the remainder of a question at the start of the result table, if there is room.
     pub(crate) fn answer(&mut self, table: &[u16], res: &mut [u16]) -> Result<usize, Fault>
-        requires { Stands arithmetic comparison self.old }
-        ensures value { Equation arithmetic comparison self.old (Question table.now res.old) (told result res.new) self.new }
+        requires { Stands F.arithmetic O.comparison self.old }
+        ensures value { Equation F.arithmetic O.comparison self.old (Question table.now res.old) (told result res.new) self.new }
         ensures kept { OnErr result (res.new ≡ res.old) }
     {
         self.divide_question(table)?;

@@ -21,9 +21,9 @@ use run::{CallKind, State};
 impl<F: Field + Drop, O: MonomialOrder + Drop> Checker<F, O> {
     // Divides the generator of that number, which must leave 0.
     fn divide_generator(&mut self, number: usize) -> Result<(), Fault>
-        requires polynomials { Polynomials arithmetic comparison self.old }
+        requires polynomials { Polynomials F.arithmetic O.comparison self.old }
         requires known { number < length (polynomials self.old.generators) }
-        ensures value { result ≡ vanish (Dividing number) (GeneratorLeft number) (division (over arithmetic comparison self.old.ring) self.old.ring.variables (elements (polynomials self.old.basis)) (slice_index_or (polynomials self.old.generators) number [])) }
+        ensures value { result ≡ vanish (Dividing number) (GeneratorLeft number) (division (over F.arithmetic O.comparison self.old.ring) self.old.ring.variables (elements (polynomials self.old.basis)) (slice_index_or (polynomials self.old.generators) number [])) }
         ensures same { Same self.old self.new }
     {
         let Some(generator) = self.generators.get(number) else {
@@ -40,8 +40,8 @@ impl<F: Field + Drop, O: MonomialOrder + Drop> Checker<F, O> {
     }
 
     pub(crate) fn divide_generators(&mut self) -> Result<(), Fault>
-        requires { Polynomials arithmetic comparison self.old }
-        ensures value { result ≡ generators_vanish (arithmetic self.old.ring.field) self.old.ring.variables (comparison self.old.ring.order) (polynomials self.old.basis) 0 (polynomials self.old.generators) }
+        requires { Polynomials F.arithmetic O.comparison self.old }
+        ensures value { result ≡ generators_vanish (F.arithmetic self.old.ring.field) self.old.ring.variables (O.comparison self.old.ring.order) (polynomials self.old.basis) 0 (polynomials self.old.generators) }
         ensures same { Same self.old self.new }
     {
         for number in 0..self.generators.len() {
@@ -52,10 +52,10 @@ impl<F: Field + Drop, O: MonomialOrder + Drop> Checker<F, O> {
 
     // Whether the S-polynomial of the basis elements of these numbers leaves a remainder.
     fn is_pair_left(&mut self, j: usize, l: usize) -> Result<bool, Fault>
-        requires polynomials { Polynomials arithmetic comparison self.old }
+        requires polynomials { Polynomials F.arithmetic O.comparison self.old }
         requires first { j < length (polynomials self.old.basis) }
         requires second { l < length (polynomials self.old.basis) }
-        ensures value { left_over j l result ≡ pair_vanishes (arithmetic self.old.ring.field) self.old.ring.variables (comparison self.old.ring.order) (polynomials self.old.basis) j (slice_index_or (polynomials self.old.basis) j []) l (slice_index_or (polynomials self.old.basis) l []) }
+        ensures value { left_over j l result ≡ pair_vanishes (F.arithmetic self.old.ring.field) self.old.ring.variables (O.comparison self.old.ring.order) (polynomials self.old.basis) j (slice_index_or (polynomials self.old.basis) j []) l (slice_index_or (polynomials self.old.basis) l []) }
         ensures same { Same self.old self.new }
     {
         let Some(g) = self.basis.get(j) else {
@@ -73,8 +73,8 @@ impl<F: Field + Drop, O: MonomialOrder + Drop> Checker<F, O> {
 
     // The pairs (0,1), (0,2) .. (1,2) .. up to the first that leaves a remainder.
     pub(crate) fn divide_pairs(&mut self) -> Result<(), Fault>
-        requires { Polynomials arithmetic comparison self.old }
-        ensures value { result ≡ all_pairs_vanish (arithmetic self.old.ring.field) self.old.ring.variables (comparison self.old.ring.order) (polynomials self.old.basis) 0 (polynomials self.old.basis) }
+        requires { Polynomials F.arithmetic O.comparison self.old }
+        ensures value { result ≡ all_pairs_vanish (F.arithmetic self.old.ring.field) self.old.ring.variables (O.comparison self.old.ring.order) (polynomials self.old.basis) 0 (polynomials self.old.basis) }
         ensures same { Same self.old self.new }
     {
         let count = self.basis.len();
@@ -95,8 +95,8 @@ impl<F: Field + Drop, O: MonomialOrder + Drop> Checker<F, O> {
     }
 
     fn divide_all(&mut self) -> Result<(), Fault>
-        requires { Polynomials arithmetic comparison self.old }
-        ensures value { result ≡ all_vanish (arithmetic self.old.ring.field) self.old.ring.variables (comparison self.old.ring.order) (polynomials self.old.generators) (polynomials self.old.basis) }
+        requires { Polynomials F.arithmetic O.comparison self.old }
+        ensures value { result ≡ all_vanish (F.arithmetic self.old.ring.field) self.old.ring.variables (O.comparison self.old.ring.order) (polynomials self.old.generators) (polynomials self.old.basis) }
         ensures same { Same self.old self.new }
     {
         self.divide_generators()?;
@@ -105,8 +105,8 @@ impl<F: Field + Drop, O: MonomialOrder + Drop> Checker<F, O> {
 
     // Passes if all of them leave 0.
     pub(crate) fn complete(&mut self) -> Result<(), Fault>
-        requires { Stands arithmetic comparison self.old }
-        ensures { Equation arithmetic comparison self.old Finish (said result) self.new }
+        requires { Stands F.arithmetic O.comparison self.old }
+        ensures { Equation F.arithmetic O.comparison self.old Finish (said result) self.new }
     {
         self.enter(CallKind::Finish)?;
         self.divide_all()?;

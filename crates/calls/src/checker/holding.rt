@@ -44,7 +44,7 @@ impl<F: Field + Drop, O: MonomialOrder + Drop> Checker<F, O> {
 
     // Holds nothing, in so many variables.
     pub(crate) fn begin(&mut self, variables: usize) -> Result<(), Fault>
-        ensures { Equation arithmetic comparison self.old (Open variables) (said result) self.new }
+        ensures { Equation F.arithmetic O.comparison self.old (Open variables) (said result) self.new }
     {
         if !self.ring.set_variables(variables) {
             return Err(Fault::Variables);
@@ -56,8 +56,8 @@ impl<F: Field + Drop, O: MonomialOrder + Drop> Checker<F, O> {
     }
 
     pub(crate) fn add_generator(&mut self, table: &[u16]) -> Result<(), Fault>
-        requires { Stands arithmetic comparison self.old }
-        ensures { Equation arithmetic comparison self.old (Rule table.now) (said result) self.new }
+        requires { Stands F.arithmetic O.comparison self.old }
+        ensures { Equation F.arithmetic O.comparison self.old (Rule table.now) (said result) self.new }
     {
         self.enter(CallKind::Rule)?;
         let number = self.generators.len();
@@ -73,7 +73,7 @@ impl<F: Field + Drop, O: MonomialOrder + Drop> Checker<F, O> {
     }
 
     pub(crate) fn end_generators(&mut self) -> Result<(), Fault>
-        ensures { Equation arithmetic comparison self.old Close (said result) self.new }
+        ensures { Equation F.arithmetic O.comparison self.old Close (said result) self.new }
     {
         self.enter(CallKind::Close)
     }
@@ -86,8 +86,8 @@ impl<F: Field + Drop, O: MonomialOrder + Drop> Checker<F, O> {
         cofactors: &[u16],
         counts: &[u16],
     ) -> Result<(), Fault>
-        requires { Each (Within arithmetic comparison self.old.ring) (polynomials self.old.generators) }
-        ensures value { answered result (view self.new.check.element.terms.items) ≡ check_element (arithmetic self.old.ring.field) self.old.ring.variables (comparison self.old.ring.order) (polynomials self.old.generators) number table.now cofactors.now counts.now }
+        requires { Each (Within F.arithmetic O.comparison self.old.ring) (polynomials self.old.generators) }
+        ensures value { answered result (view self.new.check.element.terms.items) ≡ check_element (F.arithmetic self.old.ring.field) self.old.ring.variables (O.comparison self.old.ring.order) (polynomials self.old.generators) number table.now cofactors.now counts.now }
         ensures few { OnOk result (length self.new.check.element.terms.items ≤ 32) }
         ensures ring { self.new.ring ≡ self.old.ring }
         ensures generators { self.new.generators ≡ self.old.generators }
@@ -110,8 +110,8 @@ impl<F: Field + Drop, O: MonomialOrder + Drop> Checker<F, O> {
         cofactors: &[u16],
         counts: &[u16],
     ) -> Result<(), Fault>
-        requires { Stands arithmetic comparison self.old }
-        ensures { Equation arithmetic comparison self.old (Offer table.now cofactors.now counts.now) (said result) self.new }
+        requires { Stands F.arithmetic O.comparison self.old }
+        ensures { Equation F.arithmetic O.comparison self.old (Offer table.now cofactors.now counts.now) (said result) self.new }
     {
         self.enter(CallKind::Offer)?;
         let number = self.basis.len();

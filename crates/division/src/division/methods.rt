@@ -64,13 +64,13 @@ impl Division {
         factor: &Term,
         p: &[Term],
     ) -> Result<(), Limit>
-        requires factor { Factor arithmetic ring.now (term_of factor.now) }
-        requires within { Within arithmetic comparison ring.now (view p.now) }
+        requires factor { Factor F.arithmetic ring.now (term_of factor.now) }
+        requires within { Within F.arithmetic O.comparison ring.now (view p.now) }
         requires few { length p.now ≤ 512 }
-        requires dividend { Within arithmetic comparison ring.now (view self.old.dividend.sum.terms.items) }
-        ensures value { answered result (view self.new.dividend.sum.terms.items) ≡ step (over arithmetic comparison ring.now) (length self.old.remainder.terms.items) (term_of factor.now) (view p.now) (view self.old.dividend.sum.terms.items) }
+        requires dividend { Within F.arithmetic O.comparison ring.now (view self.old.dividend.sum.terms.items) }
+        ensures value { answered result (view self.new.dividend.sum.terms.items) ≡ step (over F.arithmetic O.comparison ring.now) (length self.old.remainder.terms.items) (term_of factor.now) (view p.now) (view self.old.dividend.sum.terms.items) }
         ensures kept { OnErr result (self.new.dividend.sum.terms.items ≡ self.old.dividend.sum.terms.items) }
-        ensures within { Within arithmetic comparison ring.now (view self.new.dividend.sum.terms.items) }
+        ensures within { Within F.arithmetic O.comparison ring.now (view self.new.dividend.sum.terms.items) }
         ensures remainder { self.new.remainder ≡ self.old.remainder }
     {
         let beside = self.remainder.terms().len();
@@ -85,13 +85,13 @@ impl Division {
         element: &[Term],
         quotient: &Monomial,
     ) -> Result<(), Limit>
-        requires leading { Factor arithmetic ring.now (term_of leading.now) }
+        requires leading { Factor F.arithmetic ring.now (term_of leading.now) }
         requires quotient { length (exponents_of quotient.now) ≡ ring.now.variables }
-        requires element { Within arithmetic comparison ring.now (view element.now) }
+        requires element { Within F.arithmetic O.comparison ring.now (view element.now) }
         requires few { length element.now ≤ 512 }
-        requires dividend { Within arithmetic comparison ring.now (view self.old.dividend.sum.terms.items) }
-        ensures value { answered result (view self.new.dividend.sum.terms.items) ≡ cancelled (over arithmetic comparison ring.now) (length self.old.remainder.terms.items) (term_of leading.now) (exponents_of quotient.now) (view element.now) (view self.old.dividend.sum.terms.items) }
-        ensures within { Within arithmetic comparison ring.now (view self.new.dividend.sum.terms.items) }
+        requires dividend { Within F.arithmetic O.comparison ring.now (view self.old.dividend.sum.terms.items) }
+        ensures value { answered result (view self.new.dividend.sum.terms.items) ≡ cancelled (over F.arithmetic O.comparison ring.now) (length self.old.remainder.terms.items) (term_of leading.now) (exponents_of quotient.now) (view element.now) (view self.old.dividend.sum.terms.items) }
+        ensures within { Within F.arithmetic O.comparison ring.now (view self.new.dividend.sum.terms.items) }
         ensures kept { OnErr result (self.new.dividend.sum.terms.items ≡ self.old.dividend.sum.terms.items) }
         ensures remainder { self.new.remainder ≡ self.old.remainder }
     {
@@ -119,12 +119,12 @@ impl Division {
         ring: &Ring<F, O>,
         list: &PolynomialList,
     ) -> Result<(), Limit>
-        requires list { Each (Within arithmetic comparison ring.now) (polynomials list.now) }
-        requires dividend { Within arithmetic comparison ring.now (view self.old.dividend.sum.terms.items) }
+        requires list { Each (Within F.arithmetic O.comparison ring.now) (polynomials list.now) }
+        requires dividend { Within F.arithmetic O.comparison ring.now (view self.old.dividend.sum.terms.items) }
         requires fits { length self.old.remainder.terms.items + length self.old.dividend.sum.terms.items ≤ 512 }
-        ensures value { answered result (view self.new.remainder.terms.items, view self.new.dividend.sum.terms.items) ≡ turned (over arithmetic comparison ring.now) (elements (polynomials list.now)) (view self.old.remainder.terms.items) (view self.old.dividend.sum.terms.items) }
+        ensures value { answered result (view self.new.remainder.terms.items, view self.new.dividend.sum.terms.items) ≡ turned (over F.arithmetic O.comparison ring.now) (elements (polynomials list.now)) (view self.old.remainder.terms.items) (view self.old.dividend.sum.terms.items) }
         ensures kept { OnErr result ((self.new.remainder.terms.items ≡ self.old.remainder.terms.items) × (self.new.dividend.sum.terms.items ≡ self.old.dividend.sum.terms.items)) }
-        ensures within { Within arithmetic comparison ring.now (view self.new.dividend.sum.terms.items) }
+        ensures within { Within F.arithmetic O.comparison ring.now (view self.new.dividend.sum.terms.items) }
         ensures fits { length self.new.remainder.terms.items + length self.new.dividend.sum.terms.items ≤ 512 }
     {
         let [leading, ..] = self.dividend.terms() else {
@@ -155,11 +155,11 @@ impl Division {
         ring: &Ring<F, O>,
         list: &PolynomialList,
     ) -> Result<(), Limit>
-        requires list { Each (Within arithmetic comparison ring.now) (polynomials list.now) }
-        requires dividend { Within arithmetic comparison ring.now (view self.old.dividend.sum.terms.items) }
+        requires list { Each (Within F.arithmetic O.comparison ring.now) (polynomials list.now) }
+        requires dividend { Within F.arithmetic O.comparison ring.now (view self.old.dividend.sum.terms.items) }
         requires few { length self.old.dividend.sum.terms.items ≤ 512 }
-        ensures value { answered result (view self.new.remainder.terms.items) ≡ division (over arithmetic comparison ring.now) ring.now.variables (elements (polynomials list.now)) (view self.old.dividend.sum.terms.items) }
-        ensures within { OnOk result (Within arithmetic comparison ring.now (view self.new.remainder.terms.items)) }
+        ensures value { answered result (view self.new.remainder.terms.items) ≡ division (over F.arithmetic O.comparison ring.now) ring.now.variables (elements (polynomials list.now)) (view self.old.dividend.sum.terms.items) }
+        ensures within { OnOk result (Within F.arithmetic O.comparison ring.now (view self.new.remainder.terms.items)) }
         ensures few { OnOk result (length self.new.remainder.terms.items ≤ 512) }
     {
         self.remainder.clear();
@@ -176,11 +176,11 @@ impl Division {
         list: &PolynomialList,
         f: &[Term],
     ) -> Result<(), Limit>
-        requires list { Each (Within arithmetic comparison ring.now) (polynomials list.now) }
-        requires dividend { Within arithmetic comparison ring.now (view f.now) }
+        requires list { Each (Within F.arithmetic O.comparison ring.now) (polynomials list.now) }
+        requires dividend { Within F.arithmetic O.comparison ring.now (view f.now) }
         requires few { length f.now ≤ 512 }
-        ensures value { answered result (view self.new.remainder.terms.items) ≡ division (over arithmetic comparison ring.now) ring.now.variables (elements (polynomials list.now)) (view f.now) }
-        ensures within { OnOk result (Within arithmetic comparison ring.now (view self.new.remainder.terms.items)) }
+        ensures value { answered result (view self.new.remainder.terms.items) ≡ division (over F.arithmetic O.comparison ring.now) ring.now.variables (elements (polynomials list.now)) (view f.now) }
+        ensures within { OnOk result (Within F.arithmetic O.comparison ring.now (view self.new.remainder.terms.items)) }
         ensures few { OnOk result (length self.new.remainder.terms.items ≤ 512) }
     {
         let _ = self.load(f);

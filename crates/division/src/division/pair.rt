@@ -19,12 +19,12 @@ impl Division {
         g: &[Term],
         h: &[Term],
     ) -> Result<(), Limit>
-        requires g_within { Within arithmetic comparison ring.now (view g.now) }
-        requires h_within { Within arithmetic comparison ring.now (view h.now) }
+        requires g_within { Within F.arithmetic O.comparison ring.now (view g.now) }
+        requires h_within { Within F.arithmetic O.comparison ring.now (view h.now) }
         requires g_few { length g.now ≤ 512 }
         requires h_few { length h.now ≤ 512 }
-        ensures value { answered result (view self.new.dividend.sum.terms.items) ≡ pair (over arithmetic comparison ring.now) (view g.now) (view h.now) }
-        ensures within { Within arithmetic comparison ring.now (view self.new.dividend.sum.terms.items) }
+        ensures value { answered result (view self.new.dividend.sum.terms.items) ≡ pair (over F.arithmetic O.comparison ring.now) (view g.now) (view h.now) }
+        ensures within { Within F.arithmetic O.comparison ring.now (view self.new.dividend.sum.terms.items) }
         ensures few { OnOk result (length self.new.dividend.sum.terms.items ≤ 512) }
         ensures remainder { self.new.remainder ≡ self.old.remainder }
     {
@@ -61,12 +61,12 @@ impl Division {
         g: &[Term],
         h: &[Term],
     ) -> Result<(), Limit>
-        requires g_within { Within arithmetic comparison ring.now (view g.now) }
-        requires h_within { Within arithmetic comparison ring.now (view h.now) }
+        requires g_within { Within F.arithmetic O.comparison ring.now (view g.now) }
+        requires h_within { Within F.arithmetic O.comparison ring.now (view h.now) }
         requires g_few { length g.now ≤ 512 }
         requires h_few { length h.now ≤ 512 }
-        ensures value { answered result (view self.new.dividend.sum.terms.items) ≡ pair (over arithmetic comparison ring.now) (view g.now) (view h.now) }
-        ensures within { Within arithmetic comparison ring.now (view self.new.dividend.sum.terms.items) }
+        ensures value { answered result (view self.new.dividend.sum.terms.items) ≡ pair (over F.arithmetic O.comparison ring.now) (view g.now) (view h.now) }
+        ensures within { Within F.arithmetic O.comparison ring.now (view self.new.dividend.sum.terms.items) }
         ensures few { OnOk result (length self.new.dividend.sum.terms.items ≤ 512) }
         ensures remainder { self.new.remainder.terms.items ≡ [] }
     {

@@ -26,9 +26,9 @@ struct Next {
 impl<F: Field, O: MonomialOrder> Ring<F, O> {
     // Two terms with one monomial, united.
     fn unite(&self, x: Term, y: Term) -> Option<Term>
-        requires x_code { x.coefficient < (arithmetic self.now.field).size }
-        requires y_code { y.coefficient < (arithmetic self.now.field).size }
-        ensures { view (option_to_list result) ≡ united (over arithmetic comparison self.now) (term_of x) (term_of y) }
+        requires x_code { x.coefficient < (F.arithmetic self.now.field).size }
+        requires y_code { y.coefficient < (F.arithmetic self.now.field).size }
+        ensures { view (option_to_list result) ≡ united (over F.arithmetic O.comparison self.now) (term_of x) (term_of y) }
     {
         let coefficient = self.plus(x.coefficient, y.coefficient);
         if coefficient == 0 {
@@ -41,10 +41,10 @@ impl<F: Field, O: MonomialOrder> Ring<F, O> {
     }
 
     fn next(&self, p: &[Term], q: &[Term]) -> Next
-        requires p_within { Within arithmetic comparison self.now (view p.now) }
-        requires q_within { Within arithmetic comparison self.now (view q.now) }
+        requires p_within { Within F.arithmetic O.comparison self.now (view p.now) }
+        requires q_within { Within F.arithmetic O.comparison self.now (view q.now) }
         requires some { 0 < length p.now + length q.now }
-        ensures sum { sum (over arithmetic comparison self.now) (view p.now) (view q.now) ≡ view (option_to_list result.term) ++ sum (over arithmetic comparison self.now) (view (drop result.left p.now)) (view (drop result.right q.now)) }
+        ensures sum { sum (over F.arithmetic O.comparison self.now) (view p.now) (view q.now) ≡ view (option_to_list result.term) ++ sum (over F.arithmetic O.comparison self.now) (view (drop result.left p.now)) (view (drop result.right q.now)) }
         ensures left { result.left ≤ length p.now }
         ensures right { result.right ≤ length q.now }
         ensures moves { 0 < result.left + result.right }
@@ -92,10 +92,10 @@ impl<F: Field, O: MonomialOrder> Ring<F, O> {
         q: &[Term],
         out: &mut Polynomial,
     ) -> Result<(), Limit>
-        requires p_within { Within arithmetic comparison self.now (view p.now) }
-        requires q_within { Within arithmetic comparison self.now (view q.now) }
+        requires p_within { Within F.arithmetic O.comparison self.now (view p.now) }
+        requires q_within { Within F.arithmetic O.comparison self.now (view q.now) }
         requires room { room ≤ 512 }
-        ensures { answered result (view out.new.terms.items) ≡ bounded room (sum (over arithmetic comparison self.now) (view p.now) (view q.now)) }
+        ensures { answered result (view out.new.terms.items) ≡ bounded room (sum (over F.arithmetic O.comparison self.now) (view p.now) (view q.now)) }
     {
         out.terms.clear();
         let mut i = 0;
@@ -121,10 +121,10 @@ impl<F: Field, O: MonomialOrder> Ring<F, O> {
         p: &[Term],
         out: &mut Polynomial,
     ) -> Result<(), Limit>
-        requires factor { Factor arithmetic self.now (term_of factor.now) }
-        requires within { Within arithmetic comparison self.now (view p.now) }
+        requires factor { Factor F.arithmetic self.now (term_of factor.now) }
+        requires within { Within F.arithmetic O.comparison self.now (view p.now) }
         requires few { length p.now ≤ 512 }
-        ensures { answered result (view out.new.terms.items) ≡ tight (multiple (over arithmetic comparison self.now) (term_of factor.now) (view p.now)) }
+        ensures { answered result (view out.new.terms.items) ≡ tight (multiple (over F.arithmetic O.comparison self.now) (term_of factor.now) (view p.now)) }
     {
         out.terms.clear();
         for term in p {
@@ -150,13 +150,13 @@ impl<F: Field, O: MonomialOrder> Ring<F, O> {
         product: &mut Polynomial,
         out: &mut Polynomial,
     ) -> Result<(), Limit>
-        requires factor { Factor arithmetic self.now (term_of factor.now) }
-        requires p_within { Within arithmetic comparison self.now (view p.now) }
+        requires factor { Factor F.arithmetic self.now (term_of factor.now) }
+        requires p_within { Within F.arithmetic O.comparison self.now (view p.now) }
         requires few { length p.now ≤ 512 }
-        requires f_within { Within arithmetic comparison self.now (view f.now) }
-        ensures value { answered result (view out.new.terms.items) ≡ step (over arithmetic comparison self.now) beside (term_of factor.now) (view p.now) (view f.now) }
-        ensures sum { OnOk result (view out.new.terms.items ≡ sum (over arithmetic comparison self.now) (multiple (over arithmetic comparison self.now) (term_of factor.now) (view p.now)) (view f.now)) }
-        ensures within { OnOk result (Within arithmetic comparison self.now (view out.new.terms.items)) }
+        requires f_within { Within F.arithmetic O.comparison self.now (view f.now) }
+        ensures value { answered result (view out.new.terms.items) ≡ step (over F.arithmetic O.comparison self.now) beside (term_of factor.now) (view p.now) (view f.now) }
+        ensures sum { OnOk result (view out.new.terms.items ≡ sum (over F.arithmetic O.comparison self.now) (multiple (over F.arithmetic O.comparison self.now) (term_of factor.now) (view p.now)) (view f.now)) }
+        ensures within { OnOk result (Within F.arithmetic O.comparison self.now (view out.new.terms.items)) }
     {
         self.multiple(factor, p, product)?;
         let room = MOST_TERMS.saturating_sub(beside);

@@ -30,7 +30,7 @@ impl<F: Field, O: MonomialOrder> Ring<F, O> {
     // Whether a monomial is lower than the one before, if there is one.
     fn falls(&self, last: Option<Monomial>, monomial: &Monomial) -> bool
         requires alike { IfSome last (λ m. m.variables ≡ monomial.now.variables) }
-        ensures { result ≡ falls (comparison self.now.order) (option_map exponents_of last) (exponents_of monomial.now) }
+        ensures { result ≡ falls (O.comparison self.now.order) (option_map exponents_of last) (exponents_of monomial.now) }
     {
         let Some(last) = last else {
             return true;
@@ -51,7 +51,7 @@ impl<F: Field, O: MonomialOrder> Ring<F, O> {
     ) -> Result<Term, Flaw>
         requires whole { length numbers.now ≡ self.now.variables + 1 }
         requires alike { IfSome last (λ m. m.variables ≡ self.now.variables) }
-        ensures value { mapped_ok term_of result ≡ term (arithmetic self.now.field) (comparison self.now.order) number (option_map exponents_of last) numbers.now }
+        ensures value { mapped_ok term_of result ≡ term (F.arithmetic self.now.field) (O.comparison self.now.order) number (option_map exponents_of last) numbers.now }
         ensures variables { IfOk result (λ t. t.monomial.variables ≡ self.now.variables) }
     {
         let [coefficient, exponents @ ..] = numbers else {
@@ -75,8 +75,8 @@ impl<F: Field, O: MonomialOrder> Ring<F, O> {
 
     // Reads a whole table.
     pub fn read(&self, size: TableSize, table: &[u16], out: &mut Polynomial) -> Result<(), Flaw>
-        ensures value { answered result (view out.new.terms.items) ≡ read (arithmetic self.now.field) self.now.variables (comparison self.now.order) (most size) table.now }
-        ensures within { OnOk result (Within arithmetic comparison self.now (view out.new.terms.items)) }
+        ensures value { answered result (view out.new.terms.items) ≡ read (F.arithmetic self.now.field) self.now.variables (O.comparison self.now.order) (most size) table.now }
+        ensures within { OnOk result (Within F.arithmetic O.comparison self.now (view out.new.terms.items)) }
         ensures few { OnOk result (length out.new.terms.items ≤ most size) }
     {
         out.terms.clear();

@@ -11,14 +11,14 @@ use Rattle.calls.proofs.sequence.run_calls.Goals as goal
 
 pub loop-call-init : goal.loop-call-init
 loop-call-init g c =
-    let new = c.in-ok-checker.checker in
+    let new = c.in_ok-checker.checker in
     let k = g.F.Field.arithmetic new.ring.field in
     let cmp = g.O.MonomialOrder.comparison new.ring.order in
-    let (first, field, order) = c.in-ok-checker.ensures.fresh in
-    let none : vec_items c.in-ok-replies.replies ≡ [] = search rules in (
+    let (first, field, order) = c.in_ok-checker.ensures.fresh in
+    let none : vec_items c.in_ok-replies.replies ≡ [] = search rules in (
       subst₂ (λ m rs. Underway k cmp c.args.calls.now c.args.res.now c.args.calls.now m c.args.res.now rs) (sym first) (sym none)
           (begun k cmp c.args.calls.now c.args.res.now (g.met.F.Field.lawful new.ring.field) (g.met.O.MonomialOrder.lawful new.ring.order)),
-      c.in-ok-checker.ensures.stands,
+      c.in_ok-checker.ensures.stands,
       refl,
       refl,
       search rules,
@@ -27,12 +27,12 @@ loop-call-init g c =
 
 pub loop-call-preserved : goal.loop-call-preserved
 loop-call-preserved g c =
-    let new = c.in-ok-checker.checker in
+    let new = c.in_ok-checker.checker in
     let k = g.F.Field.arithmetic new.ring.field in
     let cmp = g.O.MonomialOrder.comparison new.ring.order in
     let (underway, stands, field, order, count, space) = c.loop-call.invariant in
     let promise = c.call.ensures.promise in
-    let more = c.push-reserved.ensures in (
+    let more = c.push_reserved.ensures in (
       subst (λ rs. Underway k cmp c.args.calls.now c.args.res.now (drop (c.loop-call.call-index + 1) c.args.calls.now) (shown c.call.new.self) c.call.new.result rs) (sym more.items)
           (gone_on k cmp c.args.calls.now c.args.res.now c.loop-call.call-index (shown c.loop-call.checker) (shown c.call.new.self) c.loop-call.result c.call.new.result
           (vec_items c.loop-call.replies) c.call.result
@@ -47,8 +47,8 @@ loop-call-preserved g c =
 
 pub returns : goal.returns
 returns g c =
-    let new = c.in-ok-checker.checker in
-    let (first, field, order) = c.in-ok-checker.ensures.fresh in
+    let new = c.in_ok-checker.checker in
+    let (first, field, order) = c.in_ok-checker.ensures.fresh in
     let (underway, stands, _, _, count, space) = c.loop-call.invariant in
     let calls = c.args.calls.now in
     subst₂ (λ f o. Sequence (g.F.Field.arithmetic f) (g.O.MonomialOrder.comparison o) calls c.args.res.now (vec_items c.loop-call.replies) c.loop-call.result) field order

@@ -6,8 +6,8 @@ use Rattle.run.specs.Calls.{flat}
 use Rattle.calls.proofs.Tables.{flat_taken, flat_dropped, room, wrote}
 use Rattle.calls.proofs.writing.write_terms.Goals as goal
 
-pub write-term-start-requires : goal.write-term-start-requires
-write-term-start-requires c =
+pub write_term-start-requires : goal.write_term-start-requires
+write_term-start-requires c =
     let ts = c.args.terms.now in
     let i = c.loop-term.term-index in
     let x = c.term-item.result in
@@ -28,12 +28,12 @@ loop-term-preserved c =
     let taken = flat_taken ts i x c.loop-term-test.true c.term-item.is in
     let left = flat_dropped ts i x c.loop-term-test.true c.term-item.is in
     let count = ap length left ∙ length-append (x.coefficient ∷ exponents_of x.monomial) (flat (view (drop (i + 1) ts))) in
-    let more = c.write-term-start.ensures in
+    let more = c.write_term-start.ensures in
     let number = more.count in
     let longer = ap length taken ∙ length-append before (x.coefficient ∷ exponents_of x.monomial) in (
       omega arith,
-      wrote before c.args.res.now c.loop-term.result c.loop-term.start at_start is (x.coefficient ∷ exponents_of x.monomial) c.write-term-start.new.result c.write-term-start.result (omega arith) more.table
-          ∙ ap (λ z. z ++ drop (c.loop-term.start + c.write-term-start.result) c.args.res.now) (sym taken),
+      wrote before c.args.res.now c.loop-term.result c.loop-term.start at_start is (x.coefficient ∷ exponents_of x.monomial) c.write_term-start.new.result c.write_term-start.result (omega arith) more.table
+          ∙ ap (λ z. z ++ drop (c.loop-term.start + c.write_term-start.result) c.args.res.now) (sym taken),
       omega arith,
     )
 

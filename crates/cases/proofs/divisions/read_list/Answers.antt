@@ -15,5 +15,5 @@ kept P ps p false each one = each
 pub loop-text-preserved : goal.loop-text-preserved
 loop-text-preserved g c =
     let P = Within g.F.Field.arithmetic g.O.MonomialOrder.comparison c.args.ring.now in
-    let within = subst (λ ts. P (view ts)) (sym c.terms.ensures) c.in-ok-polynomial.ensures.within in
+    let within = subst (λ ts. P (view ts)) (sym c.terms.ensures) c.in_ok-polynomial.ensures.within in
     subst (Each P) (sym c.push.ensures.kept) (kept P (polynomials c.loop-text.list) (view c.terms.result.now) c.push.result c.loop-text.invariant within)

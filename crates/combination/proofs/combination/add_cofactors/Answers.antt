@@ -16,29 +16,29 @@ use Rattle.combination.proofs.combination.add_cofactors.Goals as goal
 abbrev refused : Fault → Result Raw Fault
 refused e = Err e
 
-pub split-at-requires : goal.split-at-requires
-split-at-requires g c =
+pub split_at-requires : goal.split_at-requires
+split_at-requires g c =
     part_within c.args.ring.now.variables c.args.counts.now c.loop-number.number c.from.result c.variables-stride.result c.loop-number.rest.now
     c.loop-number-test.true c.from.ensures c.variables-stride.ensures c.loop-number.invariant.0
 
-pub returns-in-err-add-cofactor : goal.returns-in-err-add-cofactor
-returns-in-err-add-cofactor g c =
+pub returns-in_err-add_cofactor : goal.returns-in_err-add_cofactor
+returns-in_err-add_cofactor g c =
     let k = g.F.Field.arithmetic c.args.ring.now.field in
     let n = c.args.ring.now.variables in
     let cmp = g.O.MonomialOrder.comparison c.args.ring.now.order in
     let counts = c.args.counts.now in
     let i = c.loop-number.number in
     let rest = c.loop-number.rest.now in
-    let part = c.split-at.result.0.now in
-    let later = c.split-at.result.1.now in
+    let part = c.split_at.result.0.now in
+    let later = c.split_at.result.1.now in
     let all = cut (sizes n (drop i counts)) rest in
     let parts = cut (sizes n (drop (i + 1) counts)) later in
     let (is_cut, whole) = part_more n counts i c.from.result c.variables-stride.result rest c.loop-number-test.true c.from.ensures c.variables-stride.ensures c.loop-number.invariant.0
-    part later c.split-at.ensures.front c.split-at.ensures.back c.split-at.ensures.back_len in
+    part later c.split_at.ensures.front c.split_at.ensures.back c.split_at.ensures.back_len in
     let generators = polynomials c.args.generators.now in
     let known : i < length generators = let l = c.requires.counted in omega arith in
-    let (fault, is, was) = err_from_is_err_and c.from-residual.result c.from-residual.ensures.1 in
-    let stop = sum_part k n cmp i all parts part generators (view (vec_items c.loop-number.sum.sum.terms)) (Err c.in-err-add-cofactor.field-0.0) is_cut known c.loop-number.invariant.1 c.in-err-add-cofactor.ensures.value in
+    let (fault, is, was) = err_from_is_err_and c.from_residual.result c.from_residual.ensures.1 in
+    let stop = sum_part k n cmp i all parts part generators (view (vec_items c.loop-number.sum.sum.terms)) (Err c.in_err-add_cofactor.field-0.0) is_cut known c.loop-number.invariant.1 c.in_err-add_cofactor.ensures.value in
     ap (λ (r : Result (Unit {0}) Fault). answered r (view (vec_items c.add_cofactor.new.sum.sum.terms))) is ∙ ap refused was ∙ sym (c.loop-number.invariant.3 ∙ stop)
 
 pub loop-number-preserved : goal.loop-number-preserved
@@ -49,16 +49,16 @@ loop-number-preserved g c =
     let counts = c.args.counts.now in
     let i = c.loop-number.number in
     let rest = c.loop-number.rest.now in
-    let part = c.split-at.result.0.now in
-    let later = c.split-at.result.1.now in
+    let part = c.split_at.result.0.now in
+    let later = c.split_at.result.1.now in
     let all = cut (sizes n (drop i counts)) rest in
     let parts = cut (sizes n (drop (i + 1) counts)) later in
     let (is_cut, whole) = part_more n counts i c.from.result c.variables-stride.result rest c.loop-number-test.true c.from.ensures c.variables-stride.ensures c.loop-number.invariant.0
-    part later c.split-at.ensures.front c.split-at.ensures.back c.split-at.ensures.back_len in
+    part later c.split_at.ensures.front c.split_at.ensures.back c.split_at.ensures.back_len in
     let generators = polynomials c.args.generators.now in
     let known : i < length generators = let l = c.requires.counted in omega arith in
-    let more = sum_part k n cmp i all parts part generators (view (vec_items c.loop-number.sum.sum.terms)) (Ok (view (vec_items c.add_cofactor.new.sum.sum.terms))) is_cut known c.loop-number.invariant.1 c.in-ok-add-cofactor.ensures.value in
-    (whole, read_later k n cmp i all parts part is_cut c.loop-number.invariant.1, c.in-ok-add-cofactor.ensures.within, c.loop-number.invariant.3 ∙ more)
+    let more = sum_part k n cmp i all parts part generators (view (vec_items c.loop-number.sum.sum.terms)) (Ok (view (vec_items c.add_cofactor.new.sum.sum.terms))) is_cut known c.loop-number.invariant.1 c.in_ok-add_cofactor.ensures.value in
+    (whole, read_later k n cmp i all parts part is_cut c.loop-number.invariant.1, c.in_ok-add_cofactor.ensures.within, c.loop-number.invariant.3 ∙ more)
 
 pub returns : goal.returns
 returns g c =

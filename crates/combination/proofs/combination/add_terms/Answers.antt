@@ -29,12 +29,12 @@ add-requires g c =
       sum = c.loop-term.invariant.0;
     }
 
-pub returns-in-err-in-work : goal.returns-in-err-in-work
-returns-in-err-in-work g c =
+pub returns-in_err-in_work : goal.returns-in_err-in_work
+returns-in_err-in_work g c =
     let o = over g.F.Field.arithmetic g.O.MonomialOrder.comparison c.args.ring.now in
     let h = view (vec_items c.add.new.self.sum.terms) in
-    let (fault, is, was) = err_from_is_err_and c.from-residual.result c.from-residual.ensures.1 in
-    let stop = add_term o c.args.number c.loop-term.term c.args.cofactor.now c.index-cofactor-term.result (view c.args.generator.now) (view (vec_items c.loop-term.sum.sum.terms)) h c.add.result (Err c.in-err-in-work.field-0.0) c.loop-term-test.true c.index-cofactor-term.is c.add.ensures.value c.in-err-in-work.ensures in
+    let (fault, is, was) = err_from_is_err_and c.from_residual.result c.from_residual.ensures.1 in
+    let stop = add_term o c.args.number c.loop-term.term c.args.cofactor.now c.index-cofactor-term.result (view c.args.generator.now) (view (vec_items c.loop-term.sum.sum.terms)) h c.add.result (Err c.in_err-in_work.field-0.0) c.loop-term-test.true c.index-cofactor-term.is c.add.ensures.value c.in_err-in_work.ensures in
     record {
       value = ap (λ (r : Result (Unit {0}) ArithmeticFault). answered r h) is ∙ ap refused was ∙ sym (c.loop-term.invariant.1 ∙ stop);
       within = c.add.ensures.within;
@@ -43,7 +43,7 @@ returns-in-err-in-work g c =
 pub loop-term-preserved : goal.loop-term-preserved
 loop-term-preserved g c =
     let o = over g.F.Field.arithmetic g.O.MonomialOrder.comparison c.args.ring.now in
-    let more = add_term o c.args.number c.loop-term.term c.args.cofactor.now c.index-cofactor-term.result (view c.args.generator.now) (view (vec_items c.loop-term.sum.sum.terms)) (view (vec_items c.add.new.self.sum.terms)) c.add.result (Ok tt) c.loop-term-test.true c.index-cofactor-term.is c.add.ensures.value c.in-ok-in-work.ensures in
+    let more = add_term o c.args.number c.loop-term.term c.args.cofactor.now c.index-cofactor-term.result (view c.args.generator.now) (view (vec_items c.loop-term.sum.sum.terms)) (view (vec_items c.add.new.self.sum.terms)) c.add.result (Ok tt) c.loop-term-test.true c.index-cofactor-term.is c.add.ensures.value c.in_ok-in_work.ensures in
     (c.add.ensures.within, c.loop-term.invariant.1 ∙ more)
 
 pub returns : goal.returns

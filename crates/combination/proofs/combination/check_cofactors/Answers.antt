@@ -12,27 +12,27 @@ use Rattle.combination.proofs.combination.check_cofactors.Goals as goal
 abbrev refused : TableFault → Result (Unit {0}) TableFault
 refused e = Err e
 
-pub split-at-requires : goal.split-at-requires
-split-at-requires g c =
+pub split_at-requires : goal.split_at-requires
+split_at-requires g c =
     part_within c.args.ring.now.variables c.args.counts.now c.loop-number.number c.from.result c.variables-stride.result c.loop-number.unread.now
     c.loop-number-test.true c.from.ensures c.variables-stride.ensures c.loop-number.invariant.0
 
-pub returns-in-err-read-cofactor : goal.returns-in-err-read-cofactor
-returns-in-err-read-cofactor g c =
+pub returns-in_err-read_cofactor : goal.returns-in_err-read_cofactor
+returns-in_err-read_cofactor g c =
     let k = g.F.Field.arithmetic c.args.ring.now.field in
     let n = c.args.ring.now.variables in
     let cmp = g.O.MonomialOrder.comparison c.args.ring.now.order in
     let counts = c.args.counts.now in
     let i = c.loop-number.number in
     let rest = c.loop-number.unread.now in
-    let part = c.split-at.result.0.now in
-    let later = c.split-at.result.1.now in
+    let part = c.split_at.result.0.now in
+    let later = c.split_at.result.1.now in
     let all = cut (sizes n (drop i counts)) rest in
     let parts = cut (sizes n (drop (i + 1) counts)) later in
     let (is_cut, whole) = part_more n counts i c.from.result c.variables-stride.result rest c.loop-number-test.true c.from.ensures c.variables-stride.ensures c.loop-number.invariant.0
-    part later c.split-at.ensures.front c.split-at.ensures.back c.split-at.ensures.back_len in
-    let (fault, is, was) = err_from_is_err_and c.from-residual.result c.from-residual.ensures.1 in
-    let stop = read_more k n cmp i all parts part (Err c.in-err-read-cofactor.field-0.0) is_cut c.in-err-read-cofactor.ensures.value in
+    part later c.split_at.ensures.front c.split_at.ensures.back c.split_at.ensures.back_len in
+    let (fault, is, was) = err_from_is_err_and c.from_residual.result c.from_residual.ensures.1 in
+    let stop = read_more k n cmp i all parts part (Err c.in_err-read_cofactor.field-0.0) is_cut c.in_err-read_cofactor.ensures.value in
     is ∙ ap refused was ∙ sym (c.loop-number.invariant.1 ∙ stop)
 
 pub loop-number-preserved : goal.loop-number-preserved
@@ -43,13 +43,13 @@ loop-number-preserved g c =
     let counts = c.args.counts.now in
     let i = c.loop-number.number in
     let rest = c.loop-number.unread.now in
-    let part = c.split-at.result.0.now in
-    let later = c.split-at.result.1.now in
+    let part = c.split_at.result.0.now in
+    let later = c.split_at.result.1.now in
     let all = cut (sizes n (drop i counts)) rest in
     let parts = cut (sizes n (drop (i + 1) counts)) later in
     let (is_cut, whole) = part_more n counts i c.from.result c.variables-stride.result rest c.loop-number-test.true c.from.ensures c.variables-stride.ensures c.loop-number.invariant.0
-    part later c.split-at.ensures.front c.split-at.ensures.back c.split-at.ensures.back_len in
-    let more = read_more k n cmp i all parts part (Ok (view (vec_items c.read_cofactor.new.out.terms))) is_cut c.in-ok-read-cofactor.ensures.value in
+    part later c.split_at.ensures.front c.split_at.ensures.back c.split_at.ensures.back_len in
+    let more = read_more k n cmp i all parts part (Ok (view (vec_items c.read_cofactor.new.out.terms))) is_cut c.in_ok-read_cofactor.ensures.value in
     (whole, c.loop-number.invariant.1 ∙ more)
 
 pub returns : goal.returns

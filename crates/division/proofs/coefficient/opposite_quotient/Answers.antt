@@ -2,13 +2,13 @@ use Rattle.std.proofs.Common.{◌∙◌}
 use Rattle.division.proofs.Coefficients.{no_quotient, quotient_is}
 use Rattle.division.proofs.coefficient.opposite_quotient.Goals as goal
 
-pub returns-in-err-quotient : goal.returns-in-err-quotient
-returns-in-err-quotient g c =
+pub returns-in_err-quotient : goal.returns-in_err-quotient
+returns-in_err-quotient g c =
     let k = g.F.Field.arithmetic c.args.field.now in
-    c.from-residual-in-err-quotient.ensures
-    ∙ no_quotient {k = k} (g.met.F.Field.lawful c.args.field.now) c.args.b c.in-ok-inverse.inverse c.in-ok-inverse.ensures c.args.a c.in-err-quotient.ensures
+    c.from_residual-in_err-quotient.ensures
+    ∙ no_quotient {k = k} (g.met.F.Field.lawful c.args.field.now) c.args.b c.in_ok-inverse.inverse c.in_ok-inverse.ensures c.args.a c.in_err-quotient.ensures
 
 pub returns : goal.returns
 returns g c =
     let k = g.F.Field.arithmetic c.args.field.now in
-    quotient_is {k = k} (g.met.F.Field.lawful c.args.field.now) c.args.b c.in-ok-inverse.inverse c.in-ok-inverse.ensures c.args.a c.in-ok-quotient.quotient c.opposite.result c.in-ok-quotient.ensures c.opposite.ensures
+    quotient_is {k = k} (g.met.F.Field.lawful c.args.field.now) c.args.b c.in_ok-inverse.inverse c.in_ok-inverse.ensures c.args.a c.in_ok-quotient.quotient c.opposite.result c.in_ok-quotient.ensures c.opposite.ensures

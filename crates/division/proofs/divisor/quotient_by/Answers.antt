@@ -5,8 +5,8 @@ use Rattle.polynomial.proofs.Viewing.{view_at}
 use Rattle.division.specs.Elements.{quotient_by}
 use Rattle.division.proofs.divisor.quotient_by.Goals as goal
 
-pub returns-in-default : goal.returns-in-default
-returns-in-default c =
+pub returns-in_default : goal.returns-in_default
+returns-in_default c =
     let m = exponents_of c.args.monomial.now in
     ap (λ p. quotient_by m (view p)) (sym (nil_from_length c.args.p.now (search rules)))
 

@@ -11,19 +11,19 @@ from : (p q : List Term) (i : ℕ) (x y : Term) → i < length p → i < length 
     → equal (view (drop i p)) (view (drop i q)) ≡ (equal_terms (term_of x) (term_of y) && equal (view (drop (i + 1) p)) (view (drop (i + 1) q)))
 from p q i x y h l d e = ap₂ equal (view_at i p x h d) (view_at i q y l e)
 
-pub returns-then-not-are-equal-terms : goal.returns-then-not-are-equal-terms
-returns-then-not-are-equal-terms c =
+pub returns-then-not-are_equal_terms : goal.returns-then-not-are_equal_terms
+returns-then-not-are_equal_terms c =
     let alike = c.requires in
     let same = c.loop-i.invariant in
     sym (same ∙ from c.args.p.now c.args.q.now c.loop-i.i c.index-p-i.result c.index-q-i.result (omega arith) (omega arith) c.index-p-i.is c.index-q-i.is
-    ∙ ap (λ b. b && equal (view (drop (c.loop-i.i + 1) c.args.p.now)) (view (drop (c.loop-i.i + 1) c.args.q.now))) (sym c.if-not-are-equal-terms.ensures))
+    ∙ ap (λ b. b && equal (view (drop (c.loop-i.i + 1) c.args.p.now)) (view (drop (c.loop-i.i + 1) c.args.q.now))) (sym c.if-not-are_equal_terms.ensures))
 
 pub loop-i-preserved : goal.loop-i-preserved
 loop-i-preserved c =
     let alike = c.requires in
     let same = c.loop-i.invariant in
     same ∙ from c.args.p.now c.args.q.now c.loop-i.i c.index-p-i.result c.index-q-i.result (omega arith) (omega arith) c.index-p-i.is c.index-q-i.is
-    ∙ ap (λ b. b && equal (view (drop (c.loop-i.i + 1) c.args.p.now)) (view (drop (c.loop-i.i + 1) c.args.q.now))) (sym c.if-not-are-equal-terms.ensures)
+    ∙ ap (λ b. b && equal (view (drop (c.loop-i.i + 1) c.args.p.now)) (view (drop (c.loop-i.i + 1) c.args.q.now))) (sym c.if-not-are_equal_terms.ensures)
 
 pub returns : goal.returns
 returns c =

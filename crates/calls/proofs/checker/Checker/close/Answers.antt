@@ -5,4 +5,4 @@ use Rattle.calls.proofs.Promises.{promised}
 use Rattle.calls.proofs.checker.Checker.close.Goals as goal
 
 pub returns : goal.returns
-returns g c = promised g.F.Field.arithmetic g.O.MonomialOrder.comparison g.met.F.Field.lawful g.met.O.MonomialOrder.lawful c.args.self.now Close (said c.end-generators.result) c.end-generators.new.self c.requires c.end-generators.ensures
+returns g c = promised g.F.Field.arithmetic g.O.MonomialOrder.comparison g.met.F.Field.lawful g.met.O.MonomialOrder.lawful c.args.self.now Close (said c.end_generators.result) c.end_generators.new.self c.requires c.end_generators.ensures

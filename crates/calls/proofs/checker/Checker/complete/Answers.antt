@@ -2,8 +2,8 @@
 use Rattle.calls.proofs.Holding.{held-polynomials, polynomials_on}
 use Rattle.calls.proofs.checker.Checker.complete.Goals as goal
 
-pub divide-all-requires : goal.divide-all-requires
-divide-all-requires g c =
+pub divide_all-requires : goal.divide_all-requires
+divide_all-requires g c =
     let before = c.args.self.now in
     let entry = c.enter.ensures in
     polynomials_on g.F.Field.arithmetic g.O.MonomialOrder.comparison before c.enter.new.self entry.ring entry.generators entry.basis

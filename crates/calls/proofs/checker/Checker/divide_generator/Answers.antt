@@ -24,8 +24,8 @@ divide-requires g c =
       few = omega arith;
     }
 
-pub returns-then-not-is-empty : goal.returns-then-not-is-empty
-returns-then-not-is-empty g c =
+pub returns-then-not-is_empty : goal.returns-then-not-is_empty
+returns-then-not-is_empty g c =
     let before = c.args.self.now in
     let k = g.F.Field.arithmetic before.ring.field in
     let n = before.ring.variables in
@@ -33,12 +33,12 @@ returns-then-not-is-empty g c =
     let basis = polynomials before.basis in
     let left = vec_items c.divide.new.self.remainder.terms in
     let (within, is, few) = c.in-Some.ensures in
-    let ok = because_ok _ c.divide.result _ c.in-ok-in-work.ensures in
+    let ok = because_ok _ c.divide.result _ c.in_ok-in_work.ensures in
     let outcome : Ok (view left) ≡ division (ring k n cmp) n (elements basis) (get_or (polynomials before.generators) c.args.number []) =
     answered_ok c.divide.result _ (view left) _ ok c.divide.ensures.value ∙ ap (division (ring k n cmp) n (elements basis)) is in
     record {
       value = sym (vanish_by (Dividing c.args.number) (GeneratorLeft c.args.number) (view left) _ false outcome
-          (zero_by_length c.remainder.result.now left false c.remainder.ensures c.if-not-is-empty.ensures));
+          (zero_by_length c.remainder.result.now left false c.remainder.ensures c.if-not-is_empty.ensures));
       same = record { ring = refl; generators = refl; basis = refl; state = refl };
     }
 
@@ -51,11 +51,11 @@ returns g c =
     let basis = polynomials before.basis in
     let left = vec_items c.divide.new.self.remainder.terms in
     let (within, is, few) = c.in-Some.ensures in
-    let ok = because_ok _ c.divide.result _ c.in-ok-in-work.ensures in
+    let ok = because_ok _ c.divide.result _ c.in_ok-in_work.ensures in
     let outcome : Ok (view left) ≡ division (ring k n cmp) n (elements basis) (get_or (polynomials before.generators) c.args.number []) =
     answered_ok c.divide.result _ (view left) _ ok c.divide.ensures.value ∙ ap (division (ring k n cmp) n (elements basis)) is in
     record {
       value = sym (vanish_by (Dividing c.args.number) (GeneratorLeft c.args.number) (view left) _ true outcome
-          (zero_by_length c.remainder.result.now left true c.remainder.ensures c.if-not-is-empty.ensures));
+          (zero_by_length c.remainder.result.now left true c.remainder.ensures c.if-not-is_empty.ensures));
       same = record { ring = refl; generators = refl; basis = refl; state = refl };
     }

@@ -19,8 +19,8 @@ refused e = Err e
 abbrev done : Result (Unit {0}) Fault
 done = Ok tt
 
-pub returns-in-err-divide-generator : goal.returns-in-err-divide-generator
-returns-in-err-divide-generator g c =
+pub returns-in_err-divide_generator : goal.returns-in_err-divide_generator
+returns-in_err-divide_generator g c =
     let before = c.args.self.now in
     let now = c.loop-number.self in
     let k = g.F.Field.arithmetic before.ring.field in
@@ -28,13 +28,13 @@ returns-in-err-divide-generator g c =
     let cmp = g.O.MonomialOrder.comparison before.ring.order in
     let i = c.loop-number.number in
     let (same, so_far) = c.loop-number.invariant in
-    let e = c.in-err-divide-generator.field-0.0 in
-    let (fault, is, was) = err_from_is_err_and c.from-residual.result c.from-residual.ensures.1 in
-    let stopped = moved before now same (λ r gs bs. refused e ≡ vanish (Dividing i) (GeneratorLeft i) (division (over g.F.Field.arithmetic g.O.MonomialOrder.comparison r) r.variables (elements (polynomials bs)) (get_or (polynomials gs) i []))) c.in-err-divide-generator.ensures.value in
+    let e = c.in_err-divide_generator.field-0.0 in
+    let (fault, is, was) = err_from_is_err_and c.from_residual.result c.from_residual.ensures.1 in
+    let stopped = moved before now same (λ r gs bs. refused e ≡ vanish (Dividing i) (GeneratorLeft i) (division (over g.F.Field.arithmetic g.O.MonomialOrder.comparison r) r.variables (elements (polynomials bs)) (get_or (polynomials gs) i []))) c.in_err-divide_generator.ensures.value in
     let known : i < length (polynomials before.generators) = search rules in
     record {
       value = is ∙ ap refused was ∙ sym (so_far ∙ generators_stop k n cmp (polynomials before.basis) (polynomials before.generators) i known e (sym stopped));
-      same = same_then before now c.divide-generator.new.self same c.divide-generator.ensures.same;
+      same = same_then before now c.divide_generator.new.self same c.divide_generator.ensures.same;
     }
 
 pub loop-number-preserved : goal.loop-number-preserved
@@ -46,9 +46,9 @@ loop-number-preserved g c =
     let cmp = g.O.MonomialOrder.comparison before.ring.order in
     let i = c.loop-number.number in
     let (same, so_far) = c.loop-number.invariant in
-    let passed = moved before now same (λ r gs bs. done ≡ vanish (Dividing i) (GeneratorLeft i) (division (over g.F.Field.arithmetic g.O.MonomialOrder.comparison r) r.variables (elements (polynomials bs)) (get_or (polynomials gs) i []))) c.in-ok-divide-generator.ensures.value in
+    let passed = moved before now same (λ r gs bs. done ≡ vanish (Dividing i) (GeneratorLeft i) (division (over g.F.Field.arithmetic g.O.MonomialOrder.comparison r) r.variables (elements (polynomials bs)) (get_or (polynomials gs) i []))) c.in_ok-divide_generator.ensures.value in
     let known : i < length (polynomials before.generators) = search rules in
-    (same_then before now c.divide-generator.new.self same c.divide-generator.ensures.same, so_far ∙ generators_on k n cmp (polynomials before.basis) (polynomials before.generators) i known (sym passed))
+    (same_then before now c.divide_generator.new.self same c.divide_generator.ensures.same, so_far ∙ generators_on k n cmp (polynomials before.basis) (polynomials before.generators) i known (sym passed))
 
 pub returns : goal.returns
 returns g c =

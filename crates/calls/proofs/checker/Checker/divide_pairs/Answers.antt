@@ -31,8 +31,8 @@ loop-l-init g c =
       pairs_begin (g.F.Field.arithmetic mid.ring.field) mid.ring.variables (g.O.MonomialOrder.comparison mid.ring.order) (polynomials mid.basis) c.loop-j.j known,
     )
 
-pub returns-in-err-is-pair-left : goal.returns-in-err-is-pair-left
-returns-in-err-is-pair-left g c =
+pub returns-in_err-is_pair_left : goal.returns-in_err-is_pair_left
+returns-in_err-is_pair_left g c =
     let before = c.args.self.now in
     let k = g.F.Field.arithmetic before.ring.field in
     let n = before.ring.variables in
@@ -46,13 +46,13 @@ returns-in-err-is-pair-left g c =
     let same = same_then before c.loop-j.self now same-j same-l in
     let so_far = so-far-j ∙ moved before c.loop-j.self same-j (λ r gs bs. let k = g.F.Field.arithmetic r.field in let cmp = g.O.MonomialOrder.comparison r.order in
     all_pairs_vanish k r.variables cmp (polynomials bs) j (drop j (polynomials bs)) ≡ Left k r.variables cmp (polynomials bs) j l) so-far-l in
-    let e = c.in-err-is-pair-left.field-0.0 in
-    let (fault, is, was) = err_from_is_err_and c.from-residual.result c.from-residual.ensures.1 in
-    let stopped = moved before now same (λ r gs bs. refused e ≡ pair_vanishes (g.F.Field.arithmetic r.field) r.variables (g.O.MonomialOrder.comparison r.order) (polynomials bs) j (get_or (polynomials bs) j []) l (get_or (polynomials bs) l [])) c.in-err-is-pair-left.ensures.value in
+    let e = c.in_err-is_pair_left.field-0.0 in
+    let (fault, is, was) = err_from_is_err_and c.from_residual.result c.from_residual.ensures.1 in
+    let stopped = moved before now same (λ r gs bs. refused e ≡ pair_vanishes (g.F.Field.arithmetic r.field) r.variables (g.O.MonomialOrder.comparison r.order) (polynomials bs) j (get_or (polynomials bs) j []) l (get_or (polynomials bs) l [])) c.in_err-is_pair_left.ensures.value in
     let known : l < length basis = search rules in
     record {
       value = is ∙ ap refused was ∙ sym (so_far ∙ left_stop k n cmp basis j l known e (sym stopped));
-      same = same_then before now c.is-pair-left.new.self same c.is-pair-left.ensures.same;
+      same = same_then before now c.is_pair_left.new.self same c.is_pair_left.ensures.same;
     }
 
 pub loop-l-preserved : goal.loop-l-preserved
@@ -66,9 +66,9 @@ loop-l-preserved g c =
     let l = c.loop-l.l in
     let now = c.loop-l.self in
     let (same, so_far) = c.loop-l.invariant in
-    let passed = moved before now same (λ r gs bs. left_over j l (Ok c.in-ok-is-pair-left.field-0) ≡ pair_vanishes (g.F.Field.arithmetic r.field) r.variables (g.O.MonomialOrder.comparison r.order) (polynomials bs) j (get_or (polynomials bs) j []) l (get_or (polynomials bs) l [])) c.in-ok-is-pair-left.ensures.value in
+    let passed = moved before now same (λ r gs bs. left_over j l (Ok c.in_ok-is_pair_left.field-0) ≡ pair_vanishes (g.F.Field.arithmetic r.field) r.variables (g.O.MonomialOrder.comparison r.order) (polynomials bs) j (get_or (polynomials bs) j []) l (get_or (polynomials bs) l [])) c.in_ok-is_pair_left.ensures.value in
     let known : l < length basis = search rules in (
-      same_then before now c.is-pair-left.new.self same c.is-pair-left.ensures.same,
+      same_then before now c.is_pair_left.new.self same c.is_pair_left.ensures.same,
       so_far ∙ left_on k n cmp basis j l known (sym passed ∙ ap (λ b. left_over j l (Ok b)) c.if-branch.false),
     )
 
@@ -107,13 +107,13 @@ returns-in-Some g c =
           let same = same_then before c.loop-j.self now same-j same-l in
           let so_far = so-far-j ∙ moved before c.loop-j.self same-j (λ r gs bs. let k = g.F.Field.arithmetic r.field in let cmp = g.O.MonomialOrder.comparison r.order in
           all_pairs_vanish k r.variables cmp (polynomials bs) j (drop j (polynomials bs)) ≡ Left k r.variables cmp (polynomials bs) j l) so-far-l in
-          let failed = moved before now same (λ r gs bs. left_over j l (Ok w.in-ok-is-pair-left.field-0) ≡ pair_vanishes (g.F.Field.arithmetic r.field) r.variables (g.O.MonomialOrder.comparison r.order) (polynomials bs) j (get_or (polynomials bs) j []) l (get_or (polynomials bs) l [])) w.in-ok-is-pair-left.ensures.value in
+          let failed = moved before now same (λ r gs bs. left_over j l (Ok w.in_ok-is_pair_left.field-0) ≡ pair_vanishes (g.F.Field.arithmetic r.field) r.variables (g.O.MonomialOrder.comparison r.order) (polynomials bs) j (get_or (polynomials bs) j []) l (get_or (polynomials bs) l [])) w.in_ok-is_pair_left.ensures.value in
           let left : pair_vanishes k n cmp basis j (get_or basis j []) l (get_or basis l []) ≡ Err (PairLeft j l) = sym failed ∙ ap (λ b. left_over j l (Ok b)) w.if-branch.true in
           let known : l < length basis = search rules in
           let (is-j, is-l) = same_pair c.in-Some.j c.in-Some.l j l c.loop-j-test.failing c.in-Some.is w.failing-is in
           record {
             value = ap₂ (λ j l. refused (PairLeft j l)) is-j is-l ∙ sym (so_far ∙ left_stop k n cmp basis j l known (PairLeft j l) left);
-            same = subst (Same before) (sym w.self-is) (same_then before now w.is-pair-left.new.self same w.is-pair-left.ensures.same);
+            same = subst (Same before) (sym w.self-is) (same_then before now w.is_pair_left.new.self same w.is_pair_left.ensures.same);
           }
       | else-loop-j-test w ↦ not_both (c.in-Some.j, c.in-Some.l) c.loop-j-test.failing w.failing-is c.in-Some.is
     ]

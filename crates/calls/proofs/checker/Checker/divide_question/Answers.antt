@@ -13,7 +13,7 @@ divide-requires g c =
     let entry = c.enter.ensures in
     let ring = c.enter.new.self.ring in
     let read = vec_items c.read.new.out.terms in
-    let ok = because_ok _ c.read.result _ c.in-ok-in-table.ensures in
+    let ok = because_ok _ c.read.result _ c.in_ok-in_table.ensures in
     let W : List Term → Type 0 = λ ts. Within g.F.Field.arithmetic g.O.MonomialOrder.comparison ring (view ts) in
     record {
       list = (polynomials_on g.F.Field.arithmetic g.O.MonomialOrder.comparison before c.enter.new.self entry.ring entry.generators entry.basis

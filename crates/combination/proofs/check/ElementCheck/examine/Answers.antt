@@ -27,16 +27,16 @@ tested ts us b e h = at us (h ∙ ap (λ x. eqb (length x) 0) e)
 abbrev refusing : Fault → Result Raw Fault
 refusing e = Err e
 
-pub returns-then-is-empty : goal.returns-then-is-empty
-returns-then-is-empty g c =
+pub returns-then-is_empty : goal.returns-then-is_empty
+returns-then-is_empty g c =
     let k = g.F.Field.arithmetic c.args.ring.now.field in
     let n = c.args.ring.now.variables in
     let cmp = g.O.MonomialOrder.comparison c.args.ring.now.order in
     let p = view (vec_items c.read.new.out.terms) in
-    let is : c.read.result ≡ Ok _ = because_ok _ c.read.result _ c.in-ok-in-table.ensures in
+    let is : c.read.result ≡ Ok _ = because_ok _ c.read.result _ c.in_ok-in_table.ensures in
     record {
       value = sym (examined k n cmp (polynomials c.args.generators.now) c.args.number c.args.table.now c.args.cofactors.now c.args.counts.now p
-          (answered_ok c.read.result _ p _ is c.read.ensures.value) false _ _ _ (tested c.terms.result.now (vec_items c.read.new.out.terms) true c.terms.ensures c.if-is-empty.ensures) refl refl refl);
+          (answered_ok c.read.result _ p _ is c.read.ensures.value) false _ _ _ (tested c.terms.result.now (vec_items c.read.new.out.terms) true c.terms.ensures c.if-is_empty.ensures) refl refl refl);
       within = tt;
       few = tt;
     }
@@ -47,86 +47,86 @@ returns-then-counts-len g c =
     let n = c.args.ring.now.variables in
     let cmp = g.O.MonomialOrder.comparison c.args.ring.now.order in
     let p = view (vec_items c.read.new.out.terms) in
-    let is : c.read.result ≡ Ok _ = because_ok _ c.read.result _ c.in-ok-in-table.ensures in
+    let is : c.read.result ≡ Ok _ = because_ok _ c.read.result _ c.in_ok-in_table.ensures in
     record {
       value = sym (examined k n cmp (polynomials c.args.generators.now) c.args.number c.args.table.now c.args.cofactors.now c.args.counts.now p
-          (answered_ok c.read.result _ p _ is c.read.ensures.value) true false _ _ (tested c.terms.result.now (vec_items c.read.new.out.terms) false c.terms.ensures c.if-is-empty.ensures)
+          (answered_ok c.read.result _ p _ is c.read.ensures.value) true false _ _ (tested c.terms.result.now (vec_items c.read.new.out.terms) false c.terms.ensures c.if-is_empty.ensures)
           (ne_eqb _ _ (λ e. c.if-counts-len.true (e ∙ sym c.len.ensures))) refl refl);
       within = tt;
       few = tt;
     }
 
-pub is-whole-requires : goal.is-whole-requires
-is-whole-requires g c = let few = few-polynomials c.args.generators.now in omega arith
+pub is_whole-requires : goal.is_whole-requires
+is_whole-requires g c = let few = few-polynomials c.args.generators.now in omega arith
 
-pub returns-then-not-is-whole : goal.returns-then-not-is-whole
-returns-then-not-is-whole g c =
+pub returns-then-not-is_whole : goal.returns-then-not-is_whole
+returns-then-not-is_whole g c =
     let k = g.F.Field.arithmetic c.args.ring.now.field in
     let n = c.args.ring.now.variables in
     let cmp = g.O.MonomialOrder.comparison c.args.ring.now.order in
     let p = view (vec_items c.read.new.out.terms) in
-    let is : c.read.result ≡ Ok _ = because_ok _ c.read.result _ c.in-ok-in-table.ensures in
+    let is : c.read.result ≡ Ok _ = because_ok _ c.read.result _ c.in_ok-in_table.ensures in
     record {
       value = sym (examined k n cmp (polynomials c.args.generators.now) c.args.number c.args.table.now c.args.cofactors.now c.args.counts.now p
-          (answered_ok c.read.result _ p _ is c.read.ensures.value) true true false _ (tested c.terms.result.now (vec_items c.read.new.out.terms) false c.terms.ensures c.if-is-empty.ensures)
-          (eq-eqb _ _ (c.if-counts-len.false ∙ c.len.ensures)) (sym c.if-not-is-whole.ensures) refl);
+          (answered_ok c.read.result _ p _ is c.read.ensures.value) true true false _ (tested c.terms.result.now (vec_items c.read.new.out.terms) false c.terms.ensures c.if-is_empty.ensures)
+          (eq-eqb _ _ (c.if-counts-len.false ∙ c.len.ensures)) (sym c.if-not-is_whole.ensures) refl);
       within = tt;
       few = tt;
     }
 
-pub returns-in-err-check-cofactors : goal.returns-in-err-check-cofactors
-returns-in-err-check-cofactors g c =
+pub returns-in_err-check_cofactors : goal.returns-in_err-check_cofactors
+returns-in_err-check_cofactors g c =
     let k = g.F.Field.arithmetic c.args.ring.now.field in
     let n = c.args.ring.now.variables in
     let cmp = g.O.MonomialOrder.comparison c.args.ring.now.order in
     let p = view (vec_items c.read.new.out.terms) in
     let gens = polynomials c.args.generators.now in
-    let is : c.read.result ≡ Ok _ = because_ok _ c.read.result _ c.in-ok-in-table.ensures in
-    let (fault, refused, was) = err_from_is_err_and c.from-residual-in-err-check-cofactors.result c.from-residual-in-err-check-cofactors.ensures.1 in
-    let e = c.in-err-check-cofactors.field-0.0 in
+    let is : c.read.result ≡ Ok _ = because_ok _ c.read.result _ c.in_ok-in_table.ensures in
+    let (fault, refused, was) = err_from_is_err_and c.from_residual-in_err-check_cofactors.result c.from_residual-in_err-check_cofactors.ensures.1 in
+    let e = c.in_err-check_cofactors.field-0.0 in
     record {
       value = ap (λ (r : Result (Unit {0}) Fault). answered r p) refused ∙ ap refusing was ∙ sym (examined k n cmp gens c.args.number c.args.table.now c.args.cofactors.now c.args.counts.now p
-          (answered_ok c.read.result _ p _ is c.read.ensures.value) true true true (Err (Table e)) (tested c.terms.result.now (vec_items c.read.new.out.terms) false c.terms.ensures c.if-is-empty.ensures)
-          (eq-eqb _ _ (c.if-counts-len.false ∙ c.len.ensures)) (sym c.if-not-is-whole.ensures) (sum-refused k n cmp gens c.args.number c.args.table.now c.args.cofactors.now c.args.counts.now e c.in-err-check-cofactors.ensures));
-      within = not_made (Polynomial k n cmp p) c.from-residual-in-err-check-cofactors.result fault refused;
-      few = not_made (length (vec_items c.read.new.out.terms) ≤ 32) c.from-residual-in-err-check-cofactors.result fault refused;
+          (answered_ok c.read.result _ p _ is c.read.ensures.value) true true true (Err (Table e)) (tested c.terms.result.now (vec_items c.read.new.out.terms) false c.terms.ensures c.if-is_empty.ensures)
+          (eq-eqb _ _ (c.if-counts-len.false ∙ c.len.ensures)) (sym c.if-not-is_whole.ensures) (sum-refused k n cmp gens c.args.number c.args.table.now c.args.cofactors.now c.args.counts.now e c.in_err-check_cofactors.ensures));
+      within = not_made (Polynomial k n cmp p) c.from_residual-in_err-check_cofactors.result fault refused;
+      few = not_made (length (vec_items c.read.new.out.terms) ≤ 32) c.from_residual-in_err-check_cofactors.result fault refused;
     }
 
-pub returns-in-err-add-cofactors : goal.returns-in-err-add-cofactors
-returns-in-err-add-cofactors g c =
+pub returns-in_err-add_cofactors : goal.returns-in_err-add_cofactors
+returns-in_err-add_cofactors g c =
     let k = g.F.Field.arithmetic c.args.ring.now.field in
     let n = c.args.ring.now.variables in
     let cmp = g.O.MonomialOrder.comparison c.args.ring.now.order in
     let p = view (vec_items c.read.new.out.terms) in
     let gens = polynomials c.args.generators.now in
-    let is : c.read.result ≡ Ok _ = because_ok _ c.read.result _ c.in-ok-in-table.ensures in
-    let (fault, refused, was) = err_from_is_err_and c.from-residual-in-err-add-cofactors.result c.from-residual-in-err-add-cofactors.ensures.1 in
-    let e = c.in-err-add-cofactors.field-0.0 in
+    let is : c.read.result ≡ Ok _ = because_ok _ c.read.result _ c.in_ok-in_table.ensures in
+    let (fault, refused, was) = err_from_is_err_and c.from_residual-in_err-add_cofactors.result c.from_residual-in_err-add_cofactors.ensures.1 in
+    let e = c.in_err-add_cofactors.field-0.0 in
     record {
       value = ap (λ (r : Result (Unit {0}) Fault). answered r p) refused ∙ ap refusing was ∙ sym (examined k n cmp gens c.args.number c.args.table.now c.args.cofactors.now c.args.counts.now p
-          (answered_ok c.read.result _ p _ is c.read.ensures.value) true true true (Err e) (tested c.terms.result.now (vec_items c.read.new.out.terms) false c.terms.ensures c.if-is-empty.ensures)
-          (eq-eqb _ _ (c.if-counts-len.false ∙ c.len.ensures)) (sym c.if-not-is-whole.ensures) (sym c.in-err-add-cofactors.ensures));
-      within = not_made (Polynomial k n cmp p) c.from-residual-in-err-add-cofactors.result fault refused;
-      few = not_made (length (vec_items c.read.new.out.terms) ≤ 32) c.from-residual-in-err-add-cofactors.result fault refused;
+          (answered_ok c.read.result _ p _ is c.read.ensures.value) true true true (Err e) (tested c.terms.result.now (vec_items c.read.new.out.terms) false c.terms.ensures c.if-is_empty.ensures)
+          (eq-eqb _ _ (c.if-counts-len.false ∙ c.len.ensures)) (sym c.if-not-is_whole.ensures) (sym c.in_err-add_cofactors.ensures));
+      within = not_made (Polynomial k n cmp p) c.from_residual-in_err-add_cofactors.result fault refused;
+      few = not_made (length (vec_items c.read.new.out.terms) ≤ 32) c.from_residual-in_err-add_cofactors.result fault refused;
     }
 
 -- the comparison, by the code's test
 compared : (number : ℕ) (ss ts us vs : List Term) (b : Bool) → ss ≡ us → ts ≡ vs → b ≡ equal (view ss) (view ts) → (check (equal (view us) (view vs)) (NotTheSum number) >> Ok (view vs)) ≡ (check b (NotTheSum number) >> Ok (view vs))
 compared number ss ts us vs b d e h = ap (λ x. check x (NotTheSum number) >> Ok (view vs)) (sym (h ∙ ap₂ (λ x y. equal (view x) (view y)) d e))
 
-pub returns-then-not-are-equal : goal.returns-then-not-are-equal
-returns-then-not-are-equal g c =
+pub returns-then-not-are_equal : goal.returns-then-not-are_equal
+returns-then-not-are_equal g c =
     let k = g.F.Field.arithmetic c.args.ring.now.field in
     let n = c.args.ring.now.variables in
     let cmp = g.O.MonomialOrder.comparison c.args.ring.now.order in
     let p = view (vec_items c.read.new.out.terms) in
     let gens = polynomials c.args.generators.now in
-    let is : c.read.result ≡ Ok _ = because_ok _ c.read.result _ c.in-ok-in-table.ensures in
+    let is : c.read.result ≡ Ok _ = because_ok _ c.read.result _ c.in_ok-in_table.ensures in
     record {
       value = sym (examined k n cmp gens c.args.number c.args.table.now c.args.cofactors.now c.args.counts.now p
-          (answered_ok c.read.result _ p _ is c.read.ensures.value) true true true _ (tested c.terms.result.now (vec_items c.read.new.out.terms) false c.terms.ensures c.if-is-empty.ensures)
-          (eq-eqb _ _ (c.if-counts-len.false ∙ c.len.ensures)) (sym c.if-not-is-whole.ensures) (sym c.in-ok-add-cofactors.ensures)
-          ∙ compared c.args.number c.terms-2.result.now c.terms-3.result.now _ (vec_items c.read.new.out.terms) false c.terms-2.ensures c.terms-3.ensures c.if-not-are-equal.ensures);
+          (answered_ok c.read.result _ p _ is c.read.ensures.value) true true true _ (tested c.terms.result.now (vec_items c.read.new.out.terms) false c.terms.ensures c.if-is_empty.ensures)
+          (eq-eqb _ _ (c.if-counts-len.false ∙ c.len.ensures)) (sym c.if-not-is_whole.ensures) (sym c.in_ok-add_cofactors.ensures)
+          ∙ compared c.args.number c.terms-2.result.now c.terms-3.result.now _ (vec_items c.read.new.out.terms) false c.terms-2.ensures c.terms-3.ensures c.if-not-are_equal.ensures);
       within = tt;
       few = tt;
     }
@@ -138,12 +138,12 @@ returns g c =
     let cmp = g.O.MonomialOrder.comparison c.args.ring.now.order in
     let p = view (vec_items c.read.new.out.terms) in
     let gens = polynomials c.args.generators.now in
-    let is : c.read.result ≡ Ok _ = because_ok _ c.read.result _ c.in-ok-in-table.ensures in
+    let is : c.read.result ≡ Ok _ = because_ok _ c.read.result _ c.in_ok-in_table.ensures in
     record {
       value = sym (examined k n cmp gens c.args.number c.args.table.now c.args.cofactors.now c.args.counts.now p
-          (answered_ok c.read.result _ p _ is c.read.ensures.value) true true true _ (tested c.terms.result.now (vec_items c.read.new.out.terms) false c.terms.ensures c.if-is-empty.ensures)
-          (eq-eqb _ _ (c.if-counts-len.false ∙ c.len.ensures)) (sym c.if-not-is-whole.ensures) (sym c.in-ok-add-cofactors.ensures)
-          ∙ compared c.args.number c.terms-2.result.now c.terms-3.result.now _ (vec_items c.read.new.out.terms) true c.terms-2.ensures c.terms-3.ensures c.if-not-are-equal.ensures);
+          (answered_ok c.read.result _ p _ is c.read.ensures.value) true true true _ (tested c.terms.result.now (vec_items c.read.new.out.terms) false c.terms.ensures c.if-is_empty.ensures)
+          (eq-eqb _ _ (c.if-counts-len.false ∙ c.len.ensures)) (sym c.if-not-is_whole.ensures) (sym c.in_ok-add_cofactors.ensures)
+          ∙ compared c.args.number c.terms-2.result.now c.terms-3.result.now _ (vec_items c.read.new.out.terms) true c.terms-2.ensures c.terms-3.ensures c.if-not-are_equal.ensures);
       within = on_answer (λ _. Polynomial k n cmp p) c.read.result _ is c.read.ensures.within;
       few = on_answer (λ _. length (vec_items c.read.new.out.terms) ≤ 32) c.read.result _ is c.read.ensures.few;
     }

@@ -7,8 +7,8 @@ use Rattle.division.specs.Turns.{cancelled}
 use Rattle.division.proofs.Cancelling as cancelling
 use Rattle.division.proofs.division.Division.cancel.Goals as goal
 
-pub returns-in-default : goal.returns-in-default
-returns-in-default g c =
+pub returns-in_default : goal.returns-in_default
+returns-in_default g c =
     let o = over g.F.Field.arithmetic g.O.MonomialOrder.comparison c.args.ring.now in
     let f = view (vec_items c.args.self.now.dividend.sum.terms) in
     record {
@@ -26,7 +26,7 @@ unreachable-requires g c =
     let t = term_of c.args.leading.now in
     cancelling.answers {k = k} (g.met.F.Field.lawful c.args.ring.now.field) {n = n} {cmp = cmp} (g.met.O.MonomialOrder.lawful c.args.ring.now.order n)
     c.args.element.now c.head-item.result (search rules) c.head-item.is c.requires.element t c.requires.leading
-    (c.in-default-opposite-quotient.ensures ∙ ap (λ f. opposite_quotient (g.F.Field.arithmetic f) t.0 c.head-item.result.coefficient) c.field.ensures)
+    (c.in_default-opposite_quotient.ensures ∙ ap (λ f. opposite_quotient (g.F.Field.arithmetic f) t.0 c.head-item.result.coefficient) c.field.ensures)
 
 pub add-requires : goal.add-requires
 add-requires g c =

@@ -21,8 +21,8 @@ use Rattle.division.proofs.division.Division.make_s_polynomial.Goals as goal
 abbrev refused : Limit → Outcome
 refused l = Err l
 
-pub returns-in-default : goal.returns-in-default
-returns-in-default g c =
+pub returns-in_default : goal.returns-in_default
+returns-in_default g c =
     let k = g.F.Field.arithmetic c.args.ring.now.field in
     let n = c.args.ring.now.variables in
     let cmp = g.O.MonomialOrder.comparison c.args.ring.now.order in
@@ -35,8 +35,8 @@ returns-in-default g c =
       remainder = refl;
     }
 
-pub returns-in-default-h : goal.returns-in-default-h
-returns-in-default-h g c =
+pub returns-in_default-h : goal.returns-in_default-h
+returns-in_default-h g c =
     let k = g.F.Field.arithmetic c.args.ring.now.field in
     let n = c.args.ring.now.variables in
     let cmp = g.O.MonomialOrder.comparison c.args.ring.now.order in
@@ -55,17 +55,17 @@ unreachable-requires g c =
     let n = c.args.ring.now.variables in
     let cmp = g.O.MonomialOrder.comparison c.args.ring.now.order in
     pairing.inverse-answers {k = k} (g.met.F.Field.lawful c.args.ring.now.field) {n = n} {cmp = cmp} (g.met.O.MonomialOrder.lawful c.args.ring.now.order n)
-    c.args.g.now c.args.h.now c.a-item.result c.b-item.result (search rules) c.a-item.is (search rules) c.b-item.is c.requires.g_within c.requires.h-within
-    (c.in-default-inverse.ensures ∙ ap (λ f. inverted (g.F.Field.arithmetic f).size (g.F.Field.arithmetic f).inverse c.a-item.result.coefficient) c.field.ensures)
+    c.args.g.now c.args.h.now c.a-item.result c.b-item.result (search rules) c.a-item.is (search rules) c.b-item.is c.requires.g_within c.requires.h_within
+    (c.in_default-inverse.ensures ∙ ap (λ f. inverted (g.F.Field.arithmetic f).size (g.F.Field.arithmetic f).inverse c.a-item.result.coefficient) c.field.ensures)
 
-pub unreachable-requires-in-default-opposite-inverse : goal.unreachable-requires-in-default-opposite-inverse
-unreachable-requires-in-default-opposite-inverse g c =
+pub unreachable-requires-in_default-opposite_inverse : goal.unreachable-requires-in_default-opposite_inverse
+unreachable-requires-in_default-opposite_inverse g c =
     let k = g.F.Field.arithmetic c.args.ring.now.field in
     let n = c.args.ring.now.variables in
     let cmp = g.O.MonomialOrder.comparison c.args.ring.now.order in
     pairing.opposite-answers {k = k} (g.met.F.Field.lawful c.args.ring.now.field) {n = n} {cmp = cmp} (g.met.O.MonomialOrder.lawful c.args.ring.now.order n)
-    c.args.g.now c.args.h.now c.a-item.result c.b-item.result (search rules) c.a-item.is (search rules) c.b-item.is c.requires.g_within c.requires.h-within
-    (c.in-default-opposite-inverse.ensures ∙ ap (λ f. inverted (g.F.Field.arithmetic f).size (opposite_inverse (g.F.Field.arithmetic f)) c.b-item.result.coefficient) c.field-2.ensures)
+    c.args.g.now c.args.h.now c.a-item.result c.b-item.result (search rules) c.a-item.is (search rules) c.b-item.is c.requires.g_within c.requires.h_within
+    (c.in_default-opposite_inverse.ensures ∙ ap (λ f. inverted (g.F.Field.arithmetic f).size (opposite_inverse (g.F.Field.arithmetic f)) c.b-item.result.coefficient) c.field-2.ensures)
 
 pub add-requires : goal.add-requires
 add-requires g c =
@@ -74,33 +74,33 @@ add-requires g c =
     let cmp = g.O.MonomialOrder.comparison c.args.ring.now.order in
     let x : Term = record { coefficient = c.in-Some.inverse; monomial = c.multipliers.result.0 } in
     let left_is = pairing.left_is {k = k} (g.met.F.Field.lawful c.args.ring.now.field) {n = n} {cmp = cmp} (g.met.O.MonomialOrder.lawful c.args.ring.now.order n)
-    c.args.g.now c.args.h.now c.a-item.result c.b-item.result (search rules) c.a-item.is (search rules) c.b-item.is c.requires.g_within c.requires.h-within x
+    c.args.g.now c.args.h.now c.a-item.result c.b-item.result (search rules) c.a-item.is (search rules) c.b-item.is c.requires.g_within c.requires.h_within x
     (c.in-Some.ensures ∙ ap (λ f. inverted (g.F.Field.arithmetic f).size (g.F.Field.arithmetic f).inverse c.a-item.result.coefficient) c.field.ensures) c.multipliers.ensures.left in
     record {
       factor = pairing.left_factor {k = k} (g.met.F.Field.lawful c.args.ring.now.field) {n = n} {cmp = cmp} (g.met.O.MonomialOrder.lawful c.args.ring.now.order n)
-          c.args.g.now c.args.h.now c.a-item.result c.b-item.result (search rules) c.a-item.is (search rules) c.b-item.is c.requires.g_within c.requires.h-within (term_of x) left_is;
+          c.args.g.now c.args.h.now c.a-item.result c.b-item.result (search rules) c.a-item.is (search rules) c.b-item.is c.requires.g_within c.requires.h_within (term_of x) left_is;
       within = c.requires.g_within;
-      few = c.requires.g-few;
+      few = c.requires.g_few;
       sum = subst (λ (s : List Term). Polynomial k n cmp (view s)) (sym c.clear.ensures) (tt, tt);
     }
 
-pub returns-in-err-add : goal.returns-in-err-add
-returns-in-err-add g c =
+pub returns-in_err-add : goal.returns-in_err-add
+returns-in_err-add g c =
     let k = g.F.Field.arithmetic c.args.ring.now.field in
     let n = c.args.ring.now.variables in
     let cmp = g.O.MonomialOrder.comparison c.args.ring.now.order in
     let x : Term = record { coefficient = c.in-Some.inverse; monomial = c.multipliers.result.0 } in
     let left_is = pairing.left_is {k = k} (g.met.F.Field.lawful c.args.ring.now.field) {n = n} {cmp = cmp} (g.met.O.MonomialOrder.lawful c.args.ring.now.order n)
-    c.args.g.now c.args.h.now c.a-item.result c.b-item.result (search rules) c.a-item.is (search rules) c.b-item.is c.requires.g_within c.requires.h-within x
+    c.args.g.now c.args.h.now c.a-item.result c.b-item.result (search rules) c.a-item.is (search rules) c.b-item.is c.requires.g_within c.requires.h_within x
     (c.in-Some.ensures ∙ ap (λ f. inverted (g.F.Field.arithmetic f).size (g.F.Field.arithmetic f).inverse c.a-item.result.coefficient) c.field.ensures) c.multipliers.ensures.left in
-    let (limit, is, was) = err_from_is_err_and c.from-residual.result c.from-residual.ensures.1 in
+    let (limit, is, was) = err_from_is_err_and c.from_residual.result c.from_residual.ensures.1 in
     let stop = pairing.pair-refused {k = k} (g.met.F.Field.lawful c.args.ring.now.field) {n = n} {cmp = cmp} (g.met.O.MonomialOrder.lawful c.args.ring.now.order n)
-    c.args.g.now c.args.h.now c.a-item.result c.b-item.result (search rules) c.a-item.is (search rules) c.b-item.is c.requires.g_within c.requires.h-within (term_of x) left_is
-    (view (vec_items c.clear.new.self.sum.terms)) (ap view c.clear.ensures) c.in-err-add.field-0.0 c.in-err-add.ensures.value in
+    c.args.g.now c.args.h.now c.a-item.result c.b-item.result (search rules) c.a-item.is (search rules) c.b-item.is c.requires.g_within c.requires.h_within (term_of x) left_is
+    (view (vec_items c.clear.new.self.sum.terms)) (ap view c.clear.ensures) c.in_err-add.field-0.0 c.in_err-add.ensures.value in
     record {
       value = ap (λ (r : Result (Unit {0}) Limit). answered r (view (vec_items c.add.new.self.sum.terms))) is ∙ ap refused was ∙ stop;
       within = c.add.ensures.within;
-      few = not_made (length (vec_items c.add.new.self.sum.terms) ≤ 512) c.from-residual.result limit is;
+      few = not_made (length (vec_items c.add.new.self.sum.terms) ≤ 512) c.from_residual.result limit is;
       remainder = refl;
     }
 
@@ -109,15 +109,15 @@ add-requires-2 g c =
     let k = g.F.Field.arithmetic c.args.ring.now.field in
     let n = c.args.ring.now.variables in
     let cmp = g.O.MonomialOrder.comparison c.args.ring.now.order in
-    let y : Term = record { coefficient = c.in-Some-opposite-inverse.opposite; monomial = c.multipliers.result.1 } in
+    let y : Term = record { coefficient = c.in-Some-opposite_inverse.opposite; monomial = c.multipliers.result.1 } in
     let right_is = pairing.right_is {k = k} (g.met.F.Field.lawful c.args.ring.now.field) {n = n} {cmp = cmp} (g.met.O.MonomialOrder.lawful c.args.ring.now.order n)
-    c.args.g.now c.args.h.now c.a-item.result c.b-item.result (search rules) c.a-item.is (search rules) c.b-item.is c.requires.g_within c.requires.h-within y
-    (c.in-Some-opposite-inverse.ensures ∙ ap (λ f. inverted (g.F.Field.arithmetic f).size (opposite_inverse (g.F.Field.arithmetic f)) c.b-item.result.coefficient) c.field-2.ensures) c.multipliers.ensures.right in
+    c.args.g.now c.args.h.now c.a-item.result c.b-item.result (search rules) c.a-item.is (search rules) c.b-item.is c.requires.g_within c.requires.h_within y
+    (c.in-Some-opposite_inverse.ensures ∙ ap (λ f. inverted (g.F.Field.arithmetic f).size (opposite_inverse (g.F.Field.arithmetic f)) c.b-item.result.coefficient) c.field-2.ensures) c.multipliers.ensures.right in
     record {
       factor = pairing.right_factor {k = k} (g.met.F.Field.lawful c.args.ring.now.field) {n = n} {cmp = cmp} (g.met.O.MonomialOrder.lawful c.args.ring.now.order n)
-          c.args.g.now c.args.h.now c.a-item.result c.b-item.result (search rules) c.a-item.is (search rules) c.b-item.is c.requires.g_within c.requires.h-within (term_of y) right_is;
-      within = c.requires.h-within;
-      few = c.requires.h-few;
+          c.args.g.now c.args.h.now c.a-item.result c.b-item.result (search rules) c.a-item.is (search rules) c.b-item.is c.requires.g_within c.requires.h_within (term_of y) right_is;
+      within = c.requires.h_within;
+      few = c.requires.h_few;
       sum = c.add.ensures.within;
     }
 
@@ -128,17 +128,17 @@ returns g c =
     let cmp = g.O.MonomialOrder.comparison c.args.ring.now.order in
     let x : Term = record { coefficient = c.in-Some.inverse; monomial = c.multipliers.result.0 } in
     let left_is = pairing.left_is {k = k} (g.met.F.Field.lawful c.args.ring.now.field) {n = n} {cmp = cmp} (g.met.O.MonomialOrder.lawful c.args.ring.now.order n)
-    c.args.g.now c.args.h.now c.a-item.result c.b-item.result (search rules) c.a-item.is (search rules) c.b-item.is c.requires.g_within c.requires.h-within x
+    c.args.g.now c.args.h.now c.a-item.result c.b-item.result (search rules) c.a-item.is (search rules) c.b-item.is c.requires.g_within c.requires.h_within x
     (c.in-Some.ensures ∙ ap (λ f. inverted (g.F.Field.arithmetic f).size (g.F.Field.arithmetic f).inverse c.a-item.result.coefficient) c.field.ensures) c.multipliers.ensures.left in
-    let y : Term = record { coefficient = c.in-Some-opposite-inverse.opposite; monomial = c.multipliers.result.1 } in
+    let y : Term = record { coefficient = c.in-Some-opposite_inverse.opposite; monomial = c.multipliers.result.1 } in
     let right_is = pairing.right_is {k = k} (g.met.F.Field.lawful c.args.ring.now.field) {n = n} {cmp = cmp} (g.met.O.MonomialOrder.lawful c.args.ring.now.order n)
-    c.args.g.now c.args.h.now c.a-item.result c.b-item.result (search rules) c.a-item.is (search rules) c.b-item.is c.requires.g_within c.requires.h-within y
-    (c.in-Some-opposite-inverse.ensures ∙ ap (λ f. inverted (g.F.Field.arithmetic f).size (opposite_inverse (g.F.Field.arithmetic f)) c.b-item.result.coefficient) c.field-2.ensures) c.multipliers.ensures.right in
+    c.args.g.now c.args.h.now c.a-item.result c.b-item.result (search rules) c.a-item.is (search rules) c.b-item.is c.requires.g_within c.requires.h_within y
+    (c.in-Some-opposite_inverse.ensures ∙ ap (λ f. inverted (g.F.Field.arithmetic f).size (opposite_inverse (g.F.Field.arithmetic f)) c.b-item.result.coefficient) c.field-2.ensures) c.multipliers.ensures.right in
     let out = vec_items c.add-2.new.self.sum.terms in
     record {
       value = c.add-2.ensures.value ∙ pairing.pair_made {k = k} (g.met.F.Field.lawful c.args.ring.now.field) {n = n} {cmp = cmp} (g.met.O.MonomialOrder.lawful c.args.ring.now.order n)
-          c.args.g.now c.args.h.now c.a-item.result c.b-item.result (search rules) c.a-item.is (search rules) c.b-item.is c.requires.g_within c.requires.h-within (term_of x) (term_of y) left_is right_is
-          (view (vec_items c.clear.new.self.sum.terms)) (ap view c.clear.ensures) (view (vec_items c.add.new.self.sum.terms)) c.in-ok-add.ensures.value;
+          c.args.g.now c.args.h.now c.a-item.result c.b-item.result (search rules) c.a-item.is (search rules) c.b-item.is c.requires.g_within c.requires.h_within (term_of x) (term_of y) left_is right_is
+          (view (vec_items c.clear.new.self.sum.terms)) (ap view c.clear.ensures) (view (vec_items c.add.new.self.sum.terms)) c.in_ok-add.ensures.value;
       within = c.add-2.ensures.within;
       few = made_if (length out ≤ 512) c.add-2.result (λ u e.
           let s = step-short (ring k n cmp) 0 (term_of y) (view c.args.h.now) (view (vec_items c.add.new.self.sum.terms)) (view out)

@@ -53,7 +53,7 @@ loop-self-smaller g c =
     let some : 0 < length work = search rules in
     (turn_ready {k = k} (g.met.F.Field.lawful c.args.ring.now.field) {n = n} {cmp = cmp} (g.met.O.MonomialOrder.lawful c.args.ring.now.order n)
     (elements ps) (each-element (Polynomial k n cmp) ps c.requires.list) (view rest) (view work) (record { held = (ok, view-small work); fits = omega arith })
-    (view (vec_items c.turn.new.self.remainder.terms), view (vec_items c.turn.new.self.dividend.sum.terms)) c.in-ok-turn.ensures.value).1 (omega arith)
+    (view (vec_items c.turn.new.self.remainder.terms), view (vec_items c.turn.new.self.dividend.sum.terms)) c.in_ok-turn.ensures.value).1 (omega arith)
 
 pub loop-self-preserved : goal.loop-self-preserved
 loop-self-preserved g c =
@@ -68,11 +68,11 @@ loop-self-preserved g c =
       c.turn.ensures.within,
       c.turn.ensures.fits,
       turn-onward (ring k n cmp) (elements ps) (view f) (view rest) (view work) onward
-          (view (vec_items c.turn.new.self.remainder.terms), view (vec_items c.turn.new.self.dividend.sum.terms)) c.in-ok-turn.ensures.value,
+          (view (vec_items c.turn.new.self.remainder.terms), view (vec_items c.turn.new.self.dividend.sum.terms)) c.in_ok-turn.ensures.value,
     )
 
-pub returns-in-err-turn : goal.returns-in-err-turn
-returns-in-err-turn g c =
+pub returns-in_err-turn : goal.returns-in_err-turn
+returns-in_err-turn g c =
     let k = g.F.Field.arithmetic c.args.ring.now.field in
     let n = c.args.ring.now.variables in
     let cmp = g.O.MonomialOrder.comparison c.args.ring.now.order in
@@ -81,15 +81,15 @@ returns-in-err-turn g c =
     let rest = vec_items c.loop-self.self.remainder.terms in
     let work = vec_items c.loop-self.self.dividend.sum.terms in
     let (ok, fits, onward) = c.loop-self.invariant in
-    let (limit, is, was) = err_from_is_err_and c.from-residual.result c.from-residual.ensures.1 in
+    let (limit, is, was) = err_from_is_err_and c.from_residual.result c.from_residual.ensures.1 in
     let stop = (settles {k = k} (g.met.F.Field.lawful c.args.ring.now.field) {n = n} {cmp = cmp} (g.met.O.MonomialOrder.lawful c.args.ring.now.order n)
-    (elements ps) (each-element (Polynomial k n cmp) ps c.requires.list) (view f) (c.requires.dividend, view-small f)).one (Err c.in-err-turn.field-0.0)
-    (turn_stops (ring k n cmp) (elements ps) (view f) (view rest) (view work) onward c.in-err-turn.field-0.0 c.in-err-turn.ensures.value) in
+    (elements ps) (each-element (Polynomial k n cmp) ps c.requires.list) (view f) (c.requires.dividend, view-small f)).one (Err c.in_err-turn.field-0.0)
+    (turn_stops (ring k n cmp) (elements ps) (view f) (view rest) (view work) onward c.in_err-turn.field-0.0 c.in_err-turn.ensures.value) in
     let left = vec_items c.turn.new.self.remainder.terms in
     record {
       value = ap (λ (r : Result (Unit {0}) Limit). answered r (view left)) is ∙ ap refused was ∙ stop;
-      within = not_made (Polynomial k n cmp (view left)) c.from-residual.result limit is;
-      few = not_made (length left ≤ 512) c.from-residual.result limit is;
+      within = not_made (Polynomial k n cmp (view left)) c.from_residual.result limit is;
+      few = not_made (length left ≤ 512) c.from_residual.result limit is;
     }
 
 pub returns : goal.returns

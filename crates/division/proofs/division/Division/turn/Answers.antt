@@ -23,8 +23,8 @@ both : (P Q : Type 0) (r : Result (Unit {0}) Limit) → P → IfErr r (λ _. Q) 
 both P Q (Ok u) p q = tt
 both P Q (Err l) p q = (p, q)
 
-pub returns-in-default : goal.returns-in-default
-returns-in-default g c =
+pub returns-in_default : goal.returns-in_default
+returns-in_default g c =
     let k = g.F.Field.arithmetic c.args.ring.now.field in
     let n = c.args.ring.now.variables in
     let cmp = g.O.MonomialOrder.comparison c.args.ring.now.order in
@@ -36,8 +36,8 @@ returns-in-default g c =
       fits = c.requires.fits;
     }
 
-pub returns-in-default-find-divisor : goal.returns-in-default-find-divisor
-returns-in-default-find-divisor g c =
+pub returns-in_default-find_divisor : goal.returns-in_default-find_divisor
+returns-in_default-find_divisor g c =
     let k = g.F.Field.arithmetic c.args.ring.now.field in
     let n = c.args.ring.now.variables in
     let cmp = g.O.MonomialOrder.comparison c.args.ring.now.order in
@@ -46,14 +46,14 @@ returns-in-default-find-divisor g c =
     let x = c.leading-item.result in
     let (some, first, is) = leads c.terms.result.now work x c.terms.ensures (search rules) c.leading-item.is in
     let fits = c.requires.fits in
-    let tail = vec_items c.take-leading.new.self.sum.terms in
+    let tail = vec_items c.take_leading.new.self.sum.terms in
     let after = vec_items c.push.new.self.terms in
-    let kept = taken c.take-leading.result work tail x some first c.take-leading.ensures in
+    let kept = taken c.take_leading.result work tail x some first c.take_leading.ensures in
     let added = pushed c.push.result rest after x (omega arith) c.push.ensures.done c.push.ensures.terms in
     let more = ap length added ∙ length-append rest (x ∷ []) in
     let less = ap length kept in
     record {
-      value = turned-kept k n cmp (polynomials c.args.list.now) rest work tail x kept c.in-default-find-divisor.ensures after added;
+      value = turned-kept k n cmp (polynomials c.args.list.now) rest work tail x kept c.in_default-find_divisor.ensures after added;
       kept = tt;
       within = (uncons {k = k} (g.met.F.Field.lawful c.args.ring.now.field) {n = n} {cmp = cmp} (g.met.O.MonomialOrder.lawful c.args.ring.now.order n) (term_of x) (view tail) (subst (λ (w : List Term). Polynomial k n cmp (view w)) kept c.requires.dividend)).1;
       fits = omega arith;

@@ -38,29 +38,35 @@ unwrap-requires c =
     let a = l.counts.ok.0 in
     let b = l.terms.ok.0 in
     let r = l.terms_room in
-    c.extend-from-slice.ensures.succeeds (omega arith)
+    c.extend_from_slice.ensures.succeeds (omega arith)
 
-pub push-reserved-requires : goal.push-reserved-requires
-push-reserved-requires c = let n = numbered c.args.self.now in let r = c.args.self.now.counts_room in omega arith
+pub push_reserved-requires : goal.push_reserved-requires
+push_reserved-requires c = let n = numbered c.args.self.now in let r = c.args.self.now.counts_room in omega arith
 
-pub invariant-of-self : goal.invariant-of-self
-invariant-of-self c =
+pub invariant_of-self : goal.invariant_of-self
+invariant_of-self c =
     let l = c.args.self.now in
     let p = c.args.p.now in
-    let cs = vec_items c.push-reserved.new.self in
-    let ts = vec_items c.extend-from-slice.new.self in
-    let counted = c.push-reserved.ensures.items in
-    let written : ts ≡ vec_items l.terms ++ p = pushed p refl c.unwrap.ensures c.extend-from-slice.ensures.items in
+    let cs = vec_items c.push_reserved.new.self in
+    let ts = vec_items c.extend_from_slice.new.self in
+    let counted = c.push_reserved.ensures.items in
+    let written : ts ≡ vec_items l.terms ++ p = pushed p refl c.unwrap.ensures c.extend_from_slice.ensures.items in
     let n = numbered l in
     let k = l.counts.ok.0 in
-    let terms-room : 1024 ≤ vec_capacity c.extend-from-slice.new.self = let r = l.terms_room in let d = c.extend-from-slice.ensures.capacity in omega arith in
-    let counts-room : 32 ≤ vec_capacity c.push-reserved.new.self = let r = l.counts_room in let d = c.push-reserved.ensures.capacity in omega arith in
-    (terms-room, (counts-room, (few l p cs ts counted written (omega arith), (short l p cs ts counted written c.requires.short, (whole l p cs ts counted written, tt)))))
+    let terms_room : 1024 ≤ vec_capacity c.extend_from_slice.new.self = let r = l.terms_room in let d = c.extend_from_slice.ensures.capacity in omega arith in
+    let counts_room : 32 ≤ vec_capacity c.push_reserved.new.self = let r = l.counts_room in let d = c.push_reserved.ensures.capacity in omega arith in
+    record {
+      terms_room = terms_room;
+      counts_room = counts_room;
+      few = few l p cs ts counted written (omega arith);
+      short = short l p cs ts counted written c.requires.short;
+      whole = whole l p cs ts counted written;
+    }
 
 pub returns : goal.returns
 returns c =
     let l = c.args.self.now in
     let p = c.args.p.now in
-    let cs = vec_items c.push-reserved.new.self in
-    let ts = vec_items c.extend-from-slice.new.self in
-    kept l p cs ts c.push-reserved.ensures.items (pushed p refl c.unwrap.ensures c.extend-from-slice.ensures.items)
+    let cs = vec_items c.push_reserved.new.self in
+    let ts = vec_items c.extend_from_slice.new.self in
+    kept l p cs ts c.push_reserved.ensures.items (pushed p refl c.unwrap.ensures c.extend_from_slice.ensures.items)

@@ -7,5 +7,5 @@ use Rattle.polynomial.proofs.list.PolynomialList.counts.Goals as goal
 pub returns : goal.returns
 returns c =
     let l = c.args.self.now in
-    let value = c.as-slice.ensures.value in
+    let value = c.as_slice.ensures.value in
     record { value = value; len = ap length value ∙ sym (cut-length (vec_items l.counts) (view (vec_items l.terms))) }

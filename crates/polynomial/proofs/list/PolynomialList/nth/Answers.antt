@@ -42,8 +42,8 @@ module _ (l : PolynomialList) (cs : List ℕ) (counts : cs ≡ vec_items l.count
       ∙ ap (λ s. take n (drop s (view ts))) begins ∙ sym (cut_at cs (view ts) i within)
       ∙ ap₂ (λ xs ys. get_or (cut xs (view ys)) i []) counts e
 
-pub overflow-add-start : goal.overflow-add-start
-overflow-add-start c =
+pub overflow_add-start : goal.overflow_add-start
+overflow_add-start c =
     let is = c.counts-counts.ensures in
     let f = fits c.args.self.now c.counts-counts.result.now is.value c.loop-j.j c.loop-j.j c.loop-j.start (omega arith) refl c.loop-j.invariant in
     omega arith
@@ -55,23 +55,23 @@ loop-j-preserved c =
     let m = total_take_more c.counts-counts.result.now c.loop-j.j (omega arith) in
     omega arith
 
-pub overflow-add-result : goal.overflow-add-result
-overflow-add-result c =
+pub overflow_add-result : goal.overflow_add-result
+overflow_add-result c =
     let is = c.counts-counts.ensures in
     let f = fits c.args.self.now c.counts-counts.result.now is.value c.args.i c.loop-j.j c.loop-j.start (omega arith) (omega arith) c.loop-j.invariant in
     omega arith
 
-pub offset-bounds-as-slice-start : goal.offset-bounds-as-slice-start
-offset-bounds-as-slice-start c =
+pub offset_bounds-as_slice-start : goal.offset_bounds-as_slice-start
+offset_bounds-as_slice-start c =
     let is = c.counts-counts.ensures in
     let f = fits c.args.self.now c.counts-counts.result.now is.value c.args.i c.loop-j.j c.loop-j.start (omega arith) (omega arith) c.loop-j.invariant in
     omega arith
 
-pub slice-bounds-result-end : goal.slice-bounds-result-end
-slice-bounds-result-end c =
+pub slice_bounds-result-end : goal.slice_bounds-result-end
+slice_bounds-result-end c =
     let is = c.counts-counts.ensures in
     let e = ends c.args.self.now c.counts-counts.result.now is.value c.args.i c.loop-j.j c.loop-j.start (omega arith) (omega arith) c.loop-j.invariant in
-    let n = ap length c.as-slice.ensures.value in
+    let n = ap length c.as_slice.ensures.value in
     omega arith
 
 pub returns : goal.returns
@@ -79,6 +79,6 @@ returns c =
     let is = c.counts-counts.ensures in
     let s = short c.args.self.now c.counts-counts.result.now is.value c.args.i c.loop-j.j c.loop-j.start (omega arith) (omega arith) c.loop-j.invariant in
     record {
-      value = viewed c.args.self.now c.counts-counts.result.now is.value c.args.i c.loop-j.j c.loop-j.start (omega arith) (omega arith) c.loop-j.invariant c.as-slice.result.now c.as-slice.ensures.value;
+      value = viewed c.args.self.now c.counts-counts.result.now is.value c.args.i c.loop-j.j c.loop-j.start (omega arith) (omega arith) c.loop-j.invariant c.as_slice.result.now c.as_slice.ensures.value;
       short = simp length-take (omega arith);
     }

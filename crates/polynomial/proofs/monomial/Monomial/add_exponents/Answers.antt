@@ -3,8 +3,8 @@ use Rattle.order.specs.Monomials.{multiply, small}
 use Rattle.polynomial.proofs.Exponents.{multiply_fronts, multiply_at, multiply-length, small_at, small-set, small-more, small_fails, take-set-more}
 use Rattle.polynomial.proofs.monomial.Monomial.add_exponents.Goals as goal
 
-pub overflow-add-exponent : goal.overflow-add-exponent
-overflow-add-exponent c =
+pub overflow_add-exponent : goal.overflow_add-exponent
+overflow_add-exponent c =
     let a = small_at c.loop-i.i c.args.self.now.exponents c.args.self.now.low (omega arith) in
     let b = small_at c.loop-i.i c.args.other.now.exponents c.args.other.now.low (omega arith) in
     record { fits = omega arith }

@@ -28,15 +28,15 @@ begun xs r e = behind-nil r ∙ ap (λ v. behind (view v) r) (sym e)
 pub loop-term-init : goal.loop-term-init
 loop-term-init g c = (search rules, search rules, begun (vec_items c.clear.new.self) _ c.clear.ensures.items)
 
-pub returns-in-default : goal.returns-in-default
-returns-in-default g c =
+pub returns-in_default : goal.returns-in_default
+returns-in_default g c =
     let o = over g.F.Field.arithmetic g.O.MonomialOrder.comparison c.args.self.now in
     let s = term_of c.args.factor.now in
     let out = view (vec_items c.loop-term.out.terms) in
     let i = c.loop-term.term-index in
     let x = c.term-item.result in
     sym (c.loop-term.invariant.2 ∙ ap (λ v. behind out (tight (multiple o s v))) (view_at i c.args.p.now x c.loop-term-test.true c.term-item.is)
-    ∙ multiple_stops o s (term_of x) (view (drop (i + 1) c.args.p.now)) out c.in-default.ensures)
+    ∙ multiple_stops o s (term_of x) (view (drop (i + 1) c.args.p.now)) out c.in_default.ensures)
 
 pub times-coefficient-requires : goal.times-coefficient-requires
 times-coefficient-requires g c =
@@ -46,7 +46,7 @@ times-coefficient-requires g c =
     let i = c.loop-term.term-index in
     let x = c.term-item.result in
     let here = subst (Polynomial k n cmp) (view_at i c.args.p.now x c.loop-term-test.true c.term-item.is) (within_drop {k = k} (g.met.F.Field.lawful c.args.self.now.field) {n = n} {cmp = cmp} (g.met.O.MonomialOrder.lawful c.args.self.now.order n) i c.args.p.now c.requires.within) in
-    record { a_code = c.requires.factor.0; b-code = here.0.0.0 }
+    record { a_code = c.requires.factor.0; b_code = here.0.0.0 }
 
 pub loop-term-preserved : goal.loop-term-preserved
 loop-term-preserved g c =
@@ -57,7 +57,7 @@ loop-term-preserved g c =
     let is : term_of y ≡ (o.times c.args.factor.now.coefficient x.coefficient, multiply (exponents_of c.args.factor.now.monomial) (exponents_of x.monomial)) = cc (c.times-coefficient.ensures, product) in (
       search rules,
       search rules,
-      turn o (term_of c.args.factor.now) c.args.p.now c.loop-term.term-index x y (vec_items c.loop-term.out.terms) (vec_items c.push-reserved.new.self) c.loop-term-test.true c.term-item.is low is c.push-reserved.ensures.items c.loop-term.invariant.2,
+      turn o (term_of c.args.factor.now) c.args.p.now c.loop-term.term-index x y (vec_items c.loop-term.out.terms) (vec_items c.push_reserved.new.self) c.loop-term-test.true c.term-item.is low is c.push_reserved.ensures.items c.loop-term.invariant.2,
     )
 
 pub returns : goal.returns

@@ -17,8 +17,8 @@ use Rattle.polynomial.proofs.ring.Ring.read.Goals as goal
 abbrev err_of : Flaw → Result Raw Flaw
 err_of e = Err e
 
-pub split-at-requires : goal.split-at-requires
-split-at-requires g c =
+pub split_at-requires : goal.split_at-requires
+split_at-requires g c =
     let s = c.args.self.now.variables + 1 in
     let m = left-more (length c.args.table.now / s - c.loop-number.number) s (length c.loop-number.rest.now) (omega arith) c.loop-number.invariant.2 in
     m.0
@@ -27,19 +27,19 @@ split-at-requires g c =
 whole : (k : Arithmetic) (n : ℕ) (cmp : Compare) (most : ℕ) (table : List ℕ) (r : Result Raw Flaw) → length table % (n + 1) ≡ 0 → length table / (n + 1) ≤ most → terms k n cmp (length table / (n + 1)) 0 None table ≡ r → r ≡ read k n cmp most table
 whole k n cmp most table r h l e = sym (read_terms k n cmp most table h l ∙ e)
 
-pub returns-in-err-term : goal.returns-in-err-term
-returns-in-err-term g c =
+pub returns-in_err-term : goal.returns-in_err-term
+returns-in_err-term g c =
     let k = g.F.Field.arithmetic c.args.self.now.field in
     let cmp = g.O.MonomialOrder.comparison c.args.self.now.order in
     let n = c.args.self.now.variables in
     let left = length c.args.table.now / (n + 1) - c.loop-number.number in
     let out = view (vec_items c.loop-number.out.terms) in
-    let (flaw, is, was) = err_from_is_err_and c.from-residual.result c.from-residual.ensures.1 in
-    let stop = terms_err k n cmp left c.loop-number.number (option_map exponents_of c.loop-number.last) c.loop-number.rest.now c.split-at.result.0.now out c.in-err-term.field-0.0 (omega arith) c.split-at.ensures.front c.in-err-term.ensures.value in
+    let (flaw, is, was) = err_from_is_err_and c.from_residual.result c.from_residual.ensures.1 in
+    let stop = terms_err k n cmp left c.loop-number.number (option_map exponents_of c.loop-number.last) c.loop-number.rest.now c.split_at.result.0.now out c.in_err-term.field-0.0 (omega arith) c.split_at.ensures.front c.in_err-term.ensures.value in
     record {
-      value = ap (λ (r : Result (Unit {0}) Flaw). answered r out) is ∙ ap err_of was ∙ whole k n cmp (most c.args.size) c.args.table.now (Err c.in-err-term.field-0.0) c.if-table-stride-ne0.false (omega arith) (c.loop-number.invariant.4 ∙ stop);
-      within = on_refusal c.from-residual.result _ flaw is;
-      few = on_refusal c.from-residual.result _ flaw is;
+      value = ap (λ (r : Result (Unit {0}) Flaw). answered r out) is ∙ ap err_of was ∙ whole k n cmp (most c.args.size) c.args.table.now (Err c.in_err-term.field-0.0) c.if-table-stride-ne0.false (omega arith) (c.loop-number.invariant.4 ∙ stop);
+      within = on_refusal c.from_residual.result _ flaw is;
+      few = on_refusal c.from_residual.result _ flaw is;
     }
 
 pub loop-number-preserved : goal.loop-number-preserved
@@ -50,18 +50,18 @@ loop-number-preserved g c =
     let i = c.loop-number.number in
     let count = length c.args.table.now / (n + 1) in
     let rest = c.loop-number.rest.now in
-    let x = c.in-ok-term.term in
+    let x = c.in_ok-term.term in
     let out = vec_items c.loop-number.out.terms in
-    let back = c.split-at.result.1.now in
+    let back = c.split_at.result.1.now in
     let m = left-more (count - i) (n + 1) (length rest) (omega arith) c.loop-number.invariant.2 in
     let down : count - i - 1 ≡ count - (i + 1) = omega arith in
-    let more = terms_ok k n cmp (count - i) i (option_map exponents_of c.loop-number.last) rest c.split-at.result.0.now back (view out) (term_of x) (omega arith) c.split-at.ensures.front c.split-at.ensures.back c.in-ok-term.ensures.value in (
-      omega (arith, c.push-reserved.ensures.len),
+    let more = terms_ok k n cmp (count - i) i (option_map exponents_of c.loop-number.last) rest c.split_at.result.0.now back (view out) (term_of x) (omega arith) c.split_at.ensures.front c.split_at.ensures.back c.in_ok-term.ensures.value in (
+      omega (arith, c.push_reserved.ensures.len),
       c.loop-number.invariant.1,
-      (let l = c.split-at.ensures.back_len in let e : length back ≡ length rest - (n + 1) = omega arith in e) ∙ m.1 ∙ ap (λ z. z * (n + 1)) down,
-      c.in-ok-term.ensures.variables,
-      c.loop-number.invariant.4 ∙ more ∙ ap (λ v. prefixed v (terms k n cmp (count - i - 1) (i + 1) (Some (exponents_of x.monomial)) back)) (sym (view-append out (x ∷ [])) ∙ ap view (sym c.push-reserved.ensures.items))
-          ∙ ap (λ z. prefixed (view (vec_items c.push-reserved.new.self)) (terms k n cmp z (i + 1) (Some (exponents_of x.monomial)) back)) down,
+      (let l = c.split_at.ensures.back_len in let e : length back ≡ length rest - (n + 1) = omega arith in e) ∙ m.1 ∙ ap (λ z. z * (n + 1)) down,
+      c.in_ok-term.ensures.variables,
+      c.loop-number.invariant.4 ∙ more ∙ ap (λ v. prefixed v (terms k n cmp (count - i - 1) (i + 1) (Some (exponents_of x.monomial)) back)) (sym (view-append out (x ∷ [])) ∙ ap view (sym c.push_reserved.ensures.items))
+          ∙ ap (λ z. prefixed (view (vec_items c.push_reserved.new.self)) (terms k n cmp z (i + 1) (Some (exponents_of x.monomial)) back)) down,
     )
 
 pub returns : goal.returns

@@ -7,14 +7,14 @@ use Rattle.polynomial.specs.Views.{exponents_of}
 use Rattle.polynomial.proofs.Reading.{ok_term, term_is, rest_of, too_high}
 use Rattle.polynomial.proofs.ring.Ring.read_term.Goals as goal
 
-pub returns-in-default-from-exponents : goal.returns-in-default-from-exponents
-returns-in-default-from-exponents g c =
+pub returns-in_default-from_exponents : goal.returns-in_default-from_exponents
+returns-in_default-from_exponents g c =
     let k = g.F.Field.arithmetic c.args.self.now.field in
     let cmp = g.O.MonomialOrder.comparison c.args.self.now.order in
     let xs = c.args.numbers.now in
     let few = c.args.self.now.few in
     record {
-      value = sym (term_is k cmp c.args.number (option_map exponents_of c.args.last) xs (omega arith) (omega arith) (omega arith) false _ (too_high xs (omega arith) c.in-default-from-exponents.ensures) refl);
+      value = sym (term_is k cmp c.args.number (option_map exponents_of c.args.last) xs (omega arith) (omega arith) (omega arith) false _ (too_high xs (omega arith) c.in_default-from_exponents.ensures) refl);
       variables = tt;
     }
 

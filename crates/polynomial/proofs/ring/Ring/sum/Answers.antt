@@ -47,8 +47,8 @@ next-next-requires g c =
     let F = g.met.F.Field.lawful c.args.self.now.field in
     let O = g.met.O.MonomialOrder.lawful c.args.self.now.order n in
     record {
-      p-within = rw (take_rest c.args.p.now c.loop-i.i) (within_drop {k = k} F {n = n} {cmp = cmp} O c.loop-i.i c.args.p.now c.requires.p-within);
-      q-within = rw (take_rest c.args.q.now c.loop-i.j) (within_drop {k = k} F {n = n} {cmp = cmp} O c.loop-i.j c.args.q.now c.requires.q-within);
+      p_within = rw (take_rest c.args.p.now c.loop-i.i) (within_drop {k = k} F {n = n} {cmp = cmp} O c.loop-i.i c.args.p.now c.requires.p_within);
+      q_within = rw (take_rest c.args.q.now c.loop-i.j) (within_drop {k = k} F {n = n} {cmp = cmp} O c.loop-i.j c.args.q.now c.requires.q_within);
       some = search rules;
     }
 
@@ -64,14 +64,14 @@ loop-i-preserved-in-Some g c =
     let o = over g.F.Field.arithmetic g.O.MonomialOrder.comparison c.args.self.now in
     let out = vec_items c.loop-i.out.terms in
     let t = turn o c.args.p.now c.args.q.now c.loop-i.i c.loop-i.j c.next-next.result.left c.next-next.result.right c.next-next.result.term (view out) c.loop-i.invariant.3 c.next-next.ensures.sum in
-    (search rules, search rules, search rules, written _ _ out (vec_items c.push-reserved.new.self) c.next-next.result.term c.in-Some.term c.in-Some.is c.push-reserved.ensures.items t)
+    (search rules, search rules, search rules, written _ _ out (vec_items c.push_reserved.new.self) c.next-next.result.term c.in-Some.term c.in-Some.is c.push_reserved.ensures.items t)
 
 pub loop-i-preserved : goal.loop-i-preserved
 loop-i-preserved g c =
     let o = over g.F.Field.arithmetic g.O.MonomialOrder.comparison c.args.self.now in
     let out = vec_items c.loop-i.out.terms in
     let t = turn o c.args.p.now c.args.q.now c.loop-i.i c.loop-i.j c.next-next.result.left c.next-next.result.right c.next-next.result.term (view out) c.loop-i.invariant.3 c.next-next.ensures.sum in
-    (search rules, search rules, search rules, unwritten _ _ (view out) c.next-next.result.term c.in-default.is t)
+    (search rules, search rules, search rules, unwritten _ _ (view out) c.next-next.result.term c.in_default.is t)
 
 pub returns : goal.returns
 returns g c =
