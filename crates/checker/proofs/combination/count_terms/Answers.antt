@@ -7,12 +7,12 @@ use Rattle.checker.proofs.combination.count_terms.Goals as goal
 
 pub loop-count-preserved : goal.loop-count-preserved
 loop-count-preserved c =
-    let i = c.loop-count.count_index in
+    let i = c.loop-count.count-index in
     let more = total_take_more c.args.counts.now i c.loop-count-test.true in
-    let fits = c.type-inv.counts i in
+    let fits = c.type_inv.counts i in
     (omega arith, omega arith, omega arith)
 
 pub returns : goal.returns
 returns c =
-    let all = ap total (take_all c.loop-count.count_index c.args.counts.now c.loop-count-test.false) in
+    let all = ap total (take_all c.loop-count.count-index c.args.counts.now c.loop-count-test.false) in
     record { value = c.loop-count.invariant.0 ∙ all; bound = omega arith }
