@@ -21,10 +21,10 @@ fn reply_to(answer: Result<(), Fault>) -> Reply
 
 impl<F: Field + Drop, O: MonomialOrder + Drop> Checker<F, O> {
     // Makes one call; a question writes into the result table.
-    pub fn call(&mut self, call: &Call, res: &mut [u16]) -> Reply
+    pub fn call(&mut self, call: &Call, result_table: &mut [u16]) -> Reply
         requires { Stands F.arithmetic O.comparison self.old }
-        ensures promise { Promise F.arithmetic O.comparison self.old (request call.now res.old) (spoken result res.new) self.new }
-        ensures table { res.new ≡ left_by (spoken result res.new) res.old }
+        ensures promise { Promise F.arithmetic O.comparison self.old (request call.now result_table.old) (spoken result result_table.new) self.new }
+        ensures table { result_table.new ≡ left_by (spoken result result_table.new) result_table.old }
     {
         match *call {
             Call::Open(variables) => reply_to(self.open(variables)),
@@ -36,7 +36,7 @@ impl<F: Field + Drop, O: MonomialOrder + Drop> Checker<F, O> {
                 counts,
             } => reply_to(self.offer(table, cofactors, counts)),
             Call::Finish => reply_to(self.finish()),
-            Call::Question(table) => match self.question(table, res) {
+            Call::Question(table) => match self.question(table, result_table) {
                 Ok(terms) => Reply::Told(terms),
                 Err(fault) => Reply::Refused(fault),
             },
@@ -50,14 +50,14 @@ pub fn run_calls<F: Field + Drop, O: MonomialOrder + Drop>(
     field: F,
     order: O,
     calls: &[Call],
-    res: &mut [u16],
+    result_table: &mut [u16],
 ) -> Result<Vec<Reply>, AllocError>
-    ensures { IfOk result (λ replies. Sequence (F.arithmetic field) (O.comparison order) calls.now res.old replies.items res.new) }
+    ensures { IfOk result (λ replies. Sequence (F.arithmetic field) (O.comparison order) calls.now result_table.old replies.items result_table.new) }
 {
     let mut checker = Checker::new(heap, field, order)?;
     let mut replies = Vec::with_capacity(heap, calls.len())?;
     for call in calls {
-        replies.push_reserved(checker.call(call, res));
+        replies.push_reserved(checker.call(call, result_table));
     }
     Ok(replies)
 }

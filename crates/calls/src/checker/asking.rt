@@ -45,25 +45,25 @@ impl<F: Field + Drop, O: MonomialOrder + Drop> Checker<F, O> {
         self.division.remainder()
     }
 
-    fn write_remainder(&self, res: &mut [u16])
-        requires { length (flat (view self.now.division.remainder.terms.items)) ≤ length res.old }
-        ensures { res.new ≡ written (view self.now.division.remainder.terms.items) res.old }
+    fn write_remainder(&self, result_table: &mut [u16])
+        requires { length (flat (view self.now.division.remainder.terms.items)) ≤ length result_table.old }
+        ensures { result_table.new ≡ written (view self.now.division.remainder.terms.items) result_table.old }
     {
-        write_terms(self.remainder(), res);
+        write_terms(self.remainder(), result_table);
     }
 
     // Writes the remainder of a question at the start of the result table, if there is room.
-    pub(crate) fn answer(&mut self, table: &[u16], res: &mut [u16]) -> Result<usize, Fault>
+    pub(crate) fn answer(&mut self, table: &[u16], result_table: &mut [u16]) -> Result<usize, Fault>
         requires { Stands F.arithmetic O.comparison self.old }
-        ensures value { Equation F.arithmetic O.comparison self.old (Question table.now res.old) (told result res.new) self.new }
-        ensures kept { OnErr result (res.new ≡ res.old) }
+        ensures value { Equation F.arithmetic O.comparison self.old (Question table.now result_table.old) (told result result_table.new) self.new }
+        ensures kept { OnErr result (result_table.new ≡ result_table.old) }
     {
         self.divide_question(table)?;
         let terms = self.remainder().len();
-        if terms * (self.ring.variables() + 1) > res.len() {
+        if terms * (self.ring.variables() + 1) > result_table.len() {
             return Err(Fault::Table(TableFault::NoRoom));
         }
-        self.write_remainder(res);
+        self.write_remainder(result_table);
         Ok(terms)
     }
 }

@@ -80,11 +80,11 @@ impl<F: Field + Drop, O: MonomialOrder + Drop> Checker<F, O> {
 
     // Divides the polynomial of a table, writes the remainder at the start of the result table, and tells how many terms it has:
     // 0 says that the polynomial follows from the generators. A refused question leaves the result table.
-    pub fn question(&mut self, table: &[u16], res: &mut [u16]) -> Result<usize, Fault>
+    pub fn question(&mut self, table: &[u16], result_table: &mut [u16]) -> Result<usize, Fault>
         requires { Stands F.arithmetic O.comparison self.old }
-        ensures promise { Promise F.arithmetic O.comparison self.old (Question table.now res.old) (told result res.new) self.new }
-        ensures kept { OnErr result (res.new ≡ res.old) }
+        ensures promise { Promise F.arithmetic O.comparison self.old (Question table.now result_table.old) (told result result_table.new) self.new }
+        ensures kept { OnErr result (result_table.new ≡ result_table.old) }
     {
-        self.answer(table, res)
+        self.answer(table, result_table)
     }
 }

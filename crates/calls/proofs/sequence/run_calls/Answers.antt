@@ -16,8 +16,8 @@ loop-call-init g c =
     let cmp = g.O.MonomialOrder.comparison new.ring.order in
     let (first, field, order) = c.in_ok-checker.ensures.fresh in
     let none : vec_items c.in_ok-replies.replies ≡ [] = search rules in (
-      subst₂ (λ m rs. Underway k cmp c.args.calls.now c.args.res.now c.args.calls.now m c.args.res.now rs) (sym first) (sym none)
-          (begun k cmp c.args.calls.now c.args.res.now (g.met.F.Field.lawful new.ring.field) (g.met.O.MonomialOrder.lawful new.ring.order)),
+      subst₂ (λ m rs. Underway k cmp c.args.calls.now c.args.result_table.now c.args.calls.now m c.args.result_table.now rs) (sym first) (sym none)
+          (begun k cmp c.args.calls.now c.args.result_table.now (g.met.F.Field.lawful new.ring.field) (g.met.O.MonomialOrder.lawful new.ring.order)),
       c.in_ok-checker.ensures.stands,
       refl,
       refl,
@@ -33,10 +33,10 @@ loop-call-preserved g c =
     let (underway, stands, field, order, count, space) = c.loop-call.invariant in
     let promise = c.call.ensures.promise in
     let more = c.push_reserved.ensures in (
-      subst (λ rs. Underway k cmp c.args.calls.now c.args.res.now (drop (c.loop-call.call-index + 1) c.args.calls.now) (shown c.call.new.self) c.call.new.result rs) (sym more.items)
-          (gone_on k cmp c.args.calls.now c.args.res.now c.loop-call.call-index (shown c.loop-call.checker) (shown c.call.new.self) c.loop-call.result c.call.new.result
+      subst (λ rs. Underway k cmp c.args.calls.now c.args.result_table.now (drop (c.loop-call.call-index + 1) c.args.calls.now) (shown c.call.new.self) c.call.new.result_table rs) (sym more.items)
+          (gone_on k cmp c.args.calls.now c.args.result_table.now c.loop-call.call-index (shown c.loop-call.checker) (shown c.call.new.self) c.loop-call.result_table c.call.new.result_table
           (vec_items c.loop-call.replies) c.call.result
-          (subst₂ (λ f o. Hears (g.F.Field.arithmetic f) (g.O.MonomialOrder.comparison o) (shown c.loop-call.checker) (request (get_or c.args.calls.now c.loop-call.call-index (OpenCall 0)) c.loop-call.result) (spoken c.call.result c.call.new.result) (shown c.call.new.self)) field order promise.hears)
+          (subst₂ (λ f o. Hears (g.F.Field.arithmetic f) (g.O.MonomialOrder.comparison o) (shown c.loop-call.checker) (request (get_or c.args.calls.now c.loop-call.call-index (OpenCall 0)) c.loop-call.result_table) (spoken c.call.result c.call.new.result_table) (shown c.call.new.self)) field order promise.hears)
           c.call.ensures.table c.loop-call-test.true underway),
       promise.stands,
       promise.field ∙ field,
@@ -51,6 +51,6 @@ returns g c =
     let (first, field, order) = c.in_ok-checker.ensures.fresh in
     let (underway, stands, _, _, count, space) = c.loop-call.invariant in
     let calls = c.args.calls.now in
-    subst₂ (λ f o. Sequence (g.F.Field.arithmetic f) (g.O.MonomialOrder.comparison o) calls c.args.res.now (vec_items c.loop-call.replies) c.loop-call.result) field order
-    (ended (g.F.Field.arithmetic new.ring.field) (g.O.MonomialOrder.comparison new.ring.order) calls c.args.res.now (drop c.loop-call.call-index calls) (shown c.loop-call.checker) c.loop-call.result (vec_items c.loop-call.replies)
+    subst₂ (λ f o. Sequence (g.F.Field.arithmetic f) (g.O.MonomialOrder.comparison o) calls c.args.result_table.now (vec_items c.loop-call.replies) c.loop-call.result_table) field order
+    (ended (g.F.Field.arithmetic new.ring.field) (g.O.MonomialOrder.comparison new.ring.order) calls c.args.result_table.now (drop c.loop-call.call-index calls) (shown c.loop-call.checker) c.loop-call.result_table (vec_items c.loop-call.replies)
     (drop_all c.loop-call.call-index calls c.loop-call-test.false) underway)

@@ -12,6 +12,6 @@ returns c =
     let fits = c.requires in
     record {
       count = omega arith;
-      table = put_first c.args.res.now c.copy_from_slice.new.self (exponents_of c.args.term.now.monomial) c.args.term.now.coefficient (length exponents + 1 - 1) (length exponents + 1)
+      table = put_first c.args.result_table.now c.copy_from_slice.new.self (exponents_of c.args.term.now.monomial) c.args.term.now.coefficient (length exponents + 1 - 1) (length exponents + 1)
           (omega arith) (c.copy_from_slice.ensures.after ∙ is) (omega arith);
     }

@@ -15,7 +15,7 @@ write_term-start-requires c =
     let (at_start, is, fits) = c.loop-term.invariant in
     let left = flat_dropped ts i x c.loop-term-test.true c.term-item.is in
     let count = ap length left ∙ length-append (x.coefficient ∷ exponents_of x.monomial) (flat (view (drop (i + 1) ts))) in
-    let space = room before c.args.res.now c.loop-term.result c.loop-term.start at_start is (omega arith) in
+    let space = room before c.args.result_table.now c.loop-term.result_table c.loop-term.start at_start is (omega arith) in
     omega arith
 
 pub loop-term-preserved : goal.loop-term-preserved
@@ -32,8 +32,8 @@ loop-term-preserved c =
     let number = more.count in
     let longer = ap length taken ∙ length-append before (x.coefficient ∷ exponents_of x.monomial) in (
       omega arith,
-      wrote before c.args.res.now c.loop-term.result c.loop-term.start at_start is (x.coefficient ∷ exponents_of x.monomial) c.write_term-start.new.result c.write_term-start.result (omega arith) more.table
-          ∙ ap (λ z. z ++ drop (c.loop-term.start + c.write_term-start.result) c.args.res.now) (sym taken),
+      wrote before c.args.result_table.now c.loop-term.result_table c.loop-term.start at_start is (x.coefficient ∷ exponents_of x.monomial) c.write_term-start.new.result_table c.write_term-start.result (omega arith) more.table
+          ∙ ap (λ z. z ++ drop (c.loop-term.start + c.write_term-start.result) c.args.result_table.now) (sym taken),
       omega arith,
     )
 
@@ -42,4 +42,4 @@ returns c =
     let ts = c.args.terms.now in
     let (at_start, is, fits) = c.loop-term.invariant in
     let all = ap (λ us. flat (view us)) (take_all c.loop-term.term-index ts c.loop-term-test.false) in
-    is ∙ ap₂ (λ p s. p ++ drop s c.args.res.now) all (at_start ∙ ap length all)
+    is ∙ ap₂ (λ p s. p ++ drop s c.args.result_table.now) all (at_start ∙ ap length all)

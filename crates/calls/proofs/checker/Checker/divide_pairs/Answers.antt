@@ -11,7 +11,7 @@ use Rattle.calls.specs.Shown.{Same}
 use Rattle.calls.proofs.Holding.{moved, same_then}
 use Rattle.calls.proofs.Vanishing.{Left, pairs_begin, left_on, left_stop, left_end, all_end}
 use Rattle.calls.proofs.checker.Checker.divide_pairs.Goals as goal
-use Rattle.calls.proofs.checker.Checker.divide_pairs.Goals.{then-loop-j-test+then-loop-l-test+in-ok-is-pair-left+then-branch, else-loop-j-test}
+use Rattle.calls.proofs.checker.Checker.divide_pairs.Goals.{then-loop-j-test+then-loop-l-test+in_ok-is_pair_left+then-branch, else-loop-j-test}
 
 abbrev refused : Fault → Result (Unit {0}) Fault
 refused e = Err e
@@ -98,7 +98,7 @@ returns-in-Some g c =
     let cmp = g.O.MonomialOrder.comparison before.ring.order in
     let basis = polynomials before.basis in
     elim c.loop-j-test.branch [
-      | then-loop-j-test+then-loop-l-test+in-ok-is-pair-left+then-branch w ↦
+      | then-loop-j-test+then-loop-l-test+in_ok-is_pair_left+then-branch w ↦
           let j = c.loop-j.j in
           let l = w.loop-l.l in
           let now = w.loop-l.self in
@@ -126,7 +126,7 @@ returns-in-None g c =
     let cmp = g.O.MonomialOrder.comparison before.ring.order in
     let basis = polynomials before.basis in
     elim c.loop-j-test.branch [
-      | then-loop-j-test+then-loop-l-test+in-ok-is-pair-left+then-branch w ↦ not_both (c.loop-j.j, w.loop-l.l) c.loop-j-test.failing c.in-None.is w.failing-is
+      | then-loop-j-test+then-loop-l-test+in_ok-is_pair_left+then-branch w ↦ not_both (c.loop-j.j, w.loop-l.l) c.loop-j-test.failing c.in-None.is w.failing-is
       | else-loop-j-test w ↦
           let (same, so_far) = c.loop-j.invariant in
           let all : length basis ≤ c.loop-j.j = search rules in

@@ -21,9 +21,9 @@ load_s_polynomial-formed-requires g c =
     let (within-h, is-h, few-h) = c.in-Some-get.ensures in
     record {
       g_within = subst (Polynomial k n cmp) (sym is-g) (each_nth (Polynomial k n cmp) basis c.args.j [] within-g c.requires.polynomials.1);
-      h-within = subst (Polynomial k n cmp) (sym is-h) (each_nth (Polynomial k n cmp) basis c.args.l [] within-h c.requires.polynomials.1);
-      g-few = omega arith;
-      h-few = omega arith;
+      h_within = subst (Polynomial k n cmp) (sym is-h) (each_nth (Polynomial k n cmp) basis c.args.l [] within-h c.requires.polynomials.1);
+      g_few = omega arith;
+      h_few = omega arith;
     }
 
 pub returns : goal.returns

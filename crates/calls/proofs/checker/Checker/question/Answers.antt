@@ -6,7 +6,7 @@ use Rattle.calls.proofs.checker.Checker.question.Goals as goal
 
 pub returns : goal.returns
 returns g c = record {
-  promise = promised g.F.Field.arithmetic g.O.MonomialOrder.comparison g.met.F.Field.lawful g.met.O.MonomialOrder.lawful c.args.self.now (Question c.args.table.now c.args.res.now)
-      (told c.answer.result c.answer.new.result) c.answer.new.self c.requires c.answer.ensures.value;
+  promise = promised g.F.Field.arithmetic g.O.MonomialOrder.comparison g.met.F.Field.lawful g.met.O.MonomialOrder.lawful c.args.self.now (Question c.args.table.now c.args.result_table.now)
+      (told c.answer.result c.answer.new.result_table) c.answer.new.self c.requires c.answer.ensures.value;
   kept = c.answer.ensures.kept;
 }
