@@ -101,7 +101,10 @@ fn check_remainder<F: Field, O: MonomialOrder>(
     let Ok(()) = division.divide(ring, &list, dividend.terms()) else {
         return Err(Fail::new(format_args!("the division meets a limit, not {answer}")));
     };
-    assert!(rt; are_equal(division.remainder(), expected.terms()), "the remainder is not {answer}");
+    assert!(rt;
+        are_equal(division.remainder(), expected.terms()),
+        "the remainder is not {answer}"
+    );
     Ok(())
 }
 
@@ -120,7 +123,10 @@ fn check_s_polynomial<F: Field, O: MonomialOrder>(
     let Ok(()) = division.load_s_polynomial(ring, g.terms(), h.terms()) else {
         return Err(Fail::new(format_args!("the S-polynomial meets a limit, not {answer}")));
     };
-    assert!(rt; are_equal(division.dividend(), expected.terms()), "the S-polynomial is not {answer}");
+    assert!(rt;
+        are_equal(division.dividend(), expected.terms()),
+        "the S-polynomial is not {answer}"
+    );
     Ok(())
 }
 
