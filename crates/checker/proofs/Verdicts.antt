@@ -1,5 +1,5 @@
 -- What the check of an element decides: whether it is the combination of the generators. Assumes nothing.
-use Rattle.std.proofs.Common.{◌≡◌, ℕ, suc, ◌*◌, Bool, true, false, eqb, ◌⊎◌, List, [], ◌∷◌, map, length, Ok, Err, Result, sym, refl, ap, ◌∙◌, subst, inl, inr, arith}
+use Rattle.std.proofs.Common.{◌≡◌, ℕ, suc, ◌*◌, true, false, eqb, ◌⊎◌, List, [], ◌∷◌, map, length, Ok, Err, Result, sym, refl, ap, ◌∙◌, subst, inl, inr, arith}
 use Rattle.std.proofs.lemmas.Bool.{eqb-true}
 use Rattle.field.specs.Fields.{Arithmetic, FieldLaws}
 use Rattle.order.specs.Orders.{Compare, OrderLaws}
@@ -10,11 +10,10 @@ use Rattle.ideal.specs.Algebra.{add_cofactor, add_all}
 use Rattle.ideal.proofs.Carried as carried
 use Rattle.polynomial.specs.Cuts.{total, cut}
 use Rattle.polynomial.specs.Equality.{equal}
-use Rattle.polynomial.specs.Limits.{tight, bounded, step}
+use Rattle.polynomial.specs.Limits.{step}
 use Rattle.polynomial.specs.Results.{◌>>=◌, ◌>>◌, check, because}
 use Rattle.polynomial.specs.Tables.{read}
 use Rattle.polynomial.specs.declared.flaw.Flaw.TheVariants.{Length}
-use Rattle.polynomial.specs.declared.flaw.Limit.{Limit}
 use Rattle.polynomial.proofs.Cutting.{cut-length}
 use Rattle.polynomial.proofs.Outcomes.{checked, bound, because_ok, bound_err, checked_err, because_err}
 use Rattle.polynomial.proofs.Polynomials.{read_good}

@@ -8,7 +8,7 @@
 --   sum_cofactors       all cofactors read from their parts, and then all products added, from 0
 --   stopped             the fault of a limit met in some work
 --   forgotten           whether there was an answer, without it
-use Rattle.std.specs.Prelude.{ℕ, suc, ◌*◌, Bool, true, false, List, [], ◌∷◌, map, Ok, Err, Result}
+use Rattle.std.specs.Prelude.{ℕ, suc, ◌*◌, List, [], ◌∷◌, map, Ok, Err, Result}
 use Rattle.field.specs.Fields.{Arithmetic}
 use Rattle.order.specs.Orders.{Compare}
 use Rattle.ideal.specs.Polynomials.{Operations}

@@ -4,7 +4,6 @@
 --   first       the number, from 0, that the generator, element or cofactor has or would get
 --   second      the term, where one is at fault
 use Rattle.std.specs.Prelude.{ℕ}
-use Rattle.field.specs.declared.fault.FieldFault.{FieldFault}
 use Rattle.field.specs.declared.fault.FieldFault.TheVariants.{UnlistedSize}
 use Rattle.polynomial.specs.declared.flaw.Flaw.{Flaw}
 use Rattle.polynomial.specs.declared.flaw.Flaw.TheVariants.{Length, Terms, Coefficient, Exponent, Order}

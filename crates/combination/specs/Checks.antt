@@ -10,7 +10,6 @@ use Rattle.ideal.specs.Polynomials.{combination}
 use Rattle.ideal.specs.Rings.{Raw, ring, Polynomial}
 use Rattle.polynomial.specs.Cuts.{total, cut}
 use Rattle.polynomial.specs.Equality.{equal}
-use Rattle.polynomial.specs.Kept.{polynomials}
 use Rattle.polynomial.specs.Results.{◌>>=◌, ◌>>◌, check, because}
 use Rattle.polynomial.specs.Tables.{read}
 use Rattle.polynomial.specs.declared.flaw.Flaw.TheVariants.{Length}

@@ -1,5 +1,5 @@
 -- What is read from a table is a polynomial. Assumes nothing.
-use Rattle.std.proofs.Common.{◌≡◌, ℕ, zero, suc, ◌+◌, ◌-◌, ◌*◌, ◌/◌, ◌%◌, ◌<◌, true, ◌&&◌, eqb, ltb, leb, ◌≢◌, List, [], ◌∷◌, length, take, drop, Some, None, Ok, Option, Ordering, Less, Equal, Greater, refl, ap, ◌∙◌, subst, add-mul, one-mul, div-add-mod', arith, length-drop, length-take-le}
+use Rattle.std.proofs.Common.{◌≡◌, ℕ, zero, suc, ◌+◌, ◌*◌, ◌/◌, ◌%◌, ◌<◌, true, ◌&&◌, eqb, ltb, leb, ◌≢◌, List, [], ◌∷◌, length, take, drop, Some, None, Ok, Option, Ordering, Less, Equal, Greater, refl, ap, ◌∙◌, subst, add-mul, one-mul, div-add-mod', arith, length-drop, length-take-le}
 use Rattle.std.proofs.lemmas.Bool.{ltb-true, eqb-true, and_parts}
 use Rattle.field.specs.Fields.{Arithmetic}
 use Rattle.order.specs.Monomials.{small}

@@ -2,7 +2,7 @@
 use Rattle.std.proofs.Common.{◌≡◌, ℕ, zero, suc, ◌+◌, ◌-◌, ◌<◌, ◌≤◌, Bool, true, false, ◌&&◌, leb, List, [], ◌∷◌, ◌++◌, length, get_or, drop, Ok, Err, Result, sym, refl, ap, ◌∙◌, subst, append_assoc, arith, length-append}
 use Rattle.std.proofs.lemmas.Bool.{le-leb, lt-leb}
 use Rattle.field.specs.Fields.{Arithmetic, FieldLaws}
-use Rattle.order.specs.Monomials.{multiply, small}
+use Rattle.order.specs.Monomials.{small}
 use Rattle.order.specs.Orders.{Compare, OrderLaws}
 use Rattle.ideal.specs.Polynomials.{Operations, Term as Written, sum, multiple}
 use Rattle.ideal.specs.Rings.{Raw, Polynomial}

@@ -2,7 +2,6 @@
 use Rattle.std.proofs.Common.{◌≡◌, ◌+◌, [], get_or, drop, vec_items, sym, refl, ◌∙◌, subst, subst₂, rules}
 use Rattle.std.proofs.lemmas.List.{drop_all}
 use Rattle.run.specs.Hears.{Hears}
-use Rattle.run.specs.Models.{fresh}
 use Rattle.calls.specs.Shown.{shown}
 use Rattle.calls.specs.Sequences.{request, spoken, Sequence}
 use Rattle.calls.specs.declared.call.Call.TheVariants.{Open as OpenCall}

@@ -1,5 +1,5 @@
 -- What is read is a polynomial, and so is the generator.
-use Rattle.std.proofs.Common.{◌≡◌, List, [], vec_items, sym, subst, arith}
+use Rattle.std.proofs.Common.{List, [], vec_items, sym, subst, arith}
 use Rattle.ideal.specs.Rings.{Polynomial}
 use Rattle.polynomial.specs.Kept.{polynomials}
 use Rattle.polynomial.specs.Views.{view}

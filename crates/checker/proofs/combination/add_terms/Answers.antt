@@ -1,5 +1,5 @@
 -- One term more is added, or the sum stops there.
-use Rattle.std.proofs.Common.{◌≡◌, Ok, Err, vec_items, Result, sym, ap, ◌∙◌}
+use Rattle.std.proofs.Common.{Ok, Err, vec_items, Result, sym, ap, ◌∙◌}
 use Rattle.std.proofs.lemmas.List.{drop_all}
 use Rattle.std.proofs.lemmas.Result.{err_from_is_err_and}
 use Rattle.ideal.specs.Rings.{Raw, ring}

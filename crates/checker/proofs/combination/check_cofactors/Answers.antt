@@ -1,5 +1,5 @@
 -- One cofactor more is read, or the reading stops there.
-use Rattle.std.proofs.Common.{◌≡◌, ◌+◌, drop, Ok, Err, vec_items, Result, sym, ap, ◌∙◌}
+use Rattle.std.proofs.Common.{◌+◌, drop, Ok, Err, vec_items, Result, sym, ap, ◌∙◌}
 use Rattle.std.proofs.lemmas.List.{drop_all}
 use Rattle.std.proofs.lemmas.Result.{err_from_is_err_and}
 use Rattle.polynomial.specs.Cuts.{cut}

@@ -1,4 +1,4 @@
-use Rattle.std.proofs.Common.{◌≡◌, ℕ, ◌<◌, ◌≤◌, Bool, true, cond, ◌&&◌, ltb, leb, List, [], ◌∷◌, ◌++◌, length, Ok, Err, vec_items, Result, sym, refl, ap, ◌∙◌, subst, ap₂, arith, rules}
+use Rattle.std.proofs.Common.{◌≡◌, ◌<◌, ◌≤◌, true, cond, ltb, leb, List, [], ◌∷◌, ◌++◌, length, Ok, vec_items, Result, sym, refl, ap, ◌∙◌, subst, arith}
 use Rattle.std.proofs.lemmas.Bool.{lt-ltb, le-leb, and_from}
 use Rattle.ideal.specs.Lists.{Each}
 use Rattle.ideal.specs.Rings.{Raw, Polynomial}
@@ -7,7 +7,7 @@ use Rattle.polynomial.specs.Tables.{read}
 use Rattle.polynomial.specs.Views.{view}
 use Rattle.polynomial.proofs.Outcomes.{because_ok, on_answer, answered_ok}
 use Rattle.checker.specs.declared.fault.Fault.{Fault}
-use Rattle.checker.specs.Checks.{after, add_generator}
+use Rattle.checker.specs.Checks.{after}
 use Rattle.checker.proofs.Elements.{each_push, generator_read}
 use Rattle.checker.proofs.checker.Checker.add_generator.Goals as goal
 

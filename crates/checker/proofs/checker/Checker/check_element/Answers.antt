@@ -1,4 +1,4 @@
-use Rattle.std.proofs.Common.{sym, refl, subst₂}
+use Rattle.std.proofs.Common.{sym, subst₂}
 use Rattle.ideal.specs.Lists.{Each}
 use Rattle.polynomial.specs.Kept.{polynomials}
 use Rattle.polynomial.specs.Rings.{Within}

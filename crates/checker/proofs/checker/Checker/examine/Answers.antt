@@ -1,20 +1,16 @@
-use Rattle.std.proofs.Common.{◌≡◌, ℕ, suc, ◌*◌, ◌<◌, ◌≤◌, Bool, true, false, not, eqb, List, [], ◌∷◌, length, Ok, Err, vec_items, Result, sym, refl, ap, ◌∙◌, subst, ap₂, arith, rules}
+use Rattle.std.proofs.Common.{◌≡◌, ℕ, Bool, true, false, not, eqb, List, [], ◌∷◌, length, Ok, Err, vec_items, sym, refl, ap, ◌∙◌, ap₂, arith}
 use Rattle.std.proofs.lemmas.Result.{err_from_is_err_and}
-use Rattle.std.proofs.lemmas.Bool.{eq-eqb, ne_eqb, eqb-true}
-use Rattle.ideal.specs.Rings.{Raw}
-use Rattle.polynomial.specs.Cuts.{total, cut}
+use Rattle.std.proofs.lemmas.Bool.{eq-eqb, ne_eqb}
 use Rattle.polynomial.specs.Equality.{equal}
 use Rattle.polynomial.specs.Kept.{polynomials}
 use Rattle.polynomial.specs.Results.{◌>>◌, check}
-use Rattle.polynomial.specs.Tables.{read}
 use Rattle.polynomial.specs.Views.{view}
 use Rattle.polynomial.specs.declared.term.Term.{Term}
 use Rattle.polynomial.proofs.Keeping.{few-polynomials}
-use Rattle.polynomial.proofs.Outcomes.{because_ok, answered_ok, answered_err}
-use Rattle.checker.specs.declared.fault.Fault.{Fault}
+use Rattle.polynomial.proofs.Outcomes.{because_ok, answered_ok}
 use Rattle.checker.specs.declared.fault.Fault.TheVariants.{Table, NotTheSum}
-use Rattle.checker.specs.Combinations.{sizes, forgotten, read_cofactors, sum_cofactors}
-use Rattle.checker.specs.Checks.{has_term, check_element}
+use Rattle.checker.specs.Combinations.{forgotten}
+use Rattle.checker.specs.Checks.{has_term}
 use Rattle.checker.proofs.Elements.{examined, sum-refused}
 use Rattle.checker.proofs.checker.Checker.examine.Goals as goal
 

@@ -5,7 +5,6 @@ use Rattle.ideal.specs.Rings.{Raw, Polynomial}
 use Rattle.polynomial.specs.Equality.{equal}
 use Rattle.polynomial.specs.Kept.{polynomials}
 use Rattle.polynomial.specs.Results.{◌>>◌, check, answered}
-use Rattle.polynomial.specs.Tables.{read}
 use Rattle.polynomial.specs.Views.{view}
 use Rattle.polynomial.specs.declared.term.Term.{Term}
 use Rattle.polynomial.proofs.Keeping.{few-polynomials}

@@ -1,4 +1,4 @@
-use Rattle.std.proofs.Common.{◌≡◌, ℕ, ◌+◌, ◌-◌, ◌<◌, min, List, length, get_or, take, sym, ap, ◌∙◌, arith, length-set}
+use Rattle.std.proofs.Common.{◌≡◌, ℕ, ◌+◌, ◌<◌, min, List, length, get_or, take, sym, ap, ◌∙◌, arith, length-set}
 use Rattle.order.specs.Monomials.{multiply, small}
 use Rattle.polynomial.proofs.Exponents.{multiply_fronts, multiply_at, multiply-length, small_at, small-set, small-more, small_fails, take-set-more}
 use Rattle.polynomial.proofs.monomial.Monomial.add_exponents.Goals as goal

@@ -1,5 +1,5 @@
 -- Place by place what is missing is low, and is the multiplier.
-use Rattle.std.proofs.Common.{◌≡◌, ◌-◌, min, length, take, sym, ap, ◌∙◌, arith, length-set}
+use Rattle.std.proofs.Common.{◌≡◌, min, length, take, sym, ap, ◌∙◌, arith, length-set}
 use Rattle.ideal.specs.Divisibility.{to_lcm}
 use Rattle.polynomial.proofs.Exponents.{small_at, small-set, take-set-more}
 use Rattle.polynomial.proofs.Quotients.{to_lcm_fronts, to_lcm_at, to_lcm-length}

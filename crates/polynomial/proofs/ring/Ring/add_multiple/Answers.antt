@@ -1,4 +1,4 @@
-use Rattle.std.proofs.Common.{◌≡◌, ◌-◌, List, Ok, vec_items, sym, ap, ◌∙◌, subst, arith}
+use Rattle.std.proofs.Common.{◌≡◌, List, Ok, vec_items, sym, ap, ◌∙◌, subst, arith}
 use Rattle.ideal.specs.Polynomials.{sum, multiple}
 use Rattle.ideal.specs.Rings.{Polynomial}
 use Rattle.ideal.proofs.Carried as carried

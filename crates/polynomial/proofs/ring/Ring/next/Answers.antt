@@ -1,4 +1,4 @@
-use Rattle.std.proofs.Common.{◌+◌, ◌++◌, drop, sym, ap, ◌∙◌, rules}
+use Rattle.std.proofs.Common.{◌++◌, drop, sym, ap, ◌∙◌, rules}
 use Rattle.ideal.specs.Polynomials.{sum}
 use Rattle.polynomial.specs.Rings.{over}
 use Rattle.polynomial.specs.Views.{view}
