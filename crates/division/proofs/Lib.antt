@@ -3,6 +3,7 @@ pub mod Bounded
 pub mod Turns
 pub mod Settling
 pub mod Progress
+pub mod Advance
 pub mod Coefficients
 pub mod Searching
 pub mod Cancelling

@@ -14,7 +14,7 @@ use Rattle.polynomial.specs.Limits.{all_small, step}
 use Rattle.polynomial.proofs.Outcomes.{bound}
 use Rattle.polynomial.proofs.Steps.{step_sum}
 use Rattle.division.specs.Limits.{Outcome, keep, resume, cancelling, turn, divide_within, settled, division, limited_s_polynomial}
-use Rattle.division.specs.Bounds.{Held, Settled, DivisionLaw, PairLaw}
+use Rattle.division.specs.Bounds.{Held, Settles, Settled, DivisionLaw, PairLaw}
 use Rattle.division.specs.Ranks.{height}
 use Rattle.division.proofs.Bounded.{small-parts, small-from, step-short, step-held, division_is}
 use Rattle.division.proofs.Turns.{height-below, kept-held, used-held}
@@ -136,3 +136,8 @@ module _ {k : Arithmetic} (F : FieldLaws k) {n : ℕ} {cmp : Compare} (O : Order
 
   pub division_law : DivisionLaw k n cmp
   division_law elements held f h = settles elements (each_polynomial elements held) f h
+
+  -- what a division of the code comes to is `division`
+  pub settle_one : (elements : List RawElement) → Each (λ g. Held k n cmp (whole g)) elements → (f : Raw) → Held k n cmp f
+      → (x : Outcome) → Settles r elements f x → x ≡ division r n elements f
+  settle_one elements held f h = (division_law elements held f h).one

@@ -20,7 +20,7 @@ use Rattle.polynomial.proofs.Viewing.{view-length, view-append}
 use Rattle.division.specs.Elements.{elements}
 use Rattle.division.specs.Divisors.{First}
 use Rattle.division.specs.Turns.{cancelled, turned_by, turned}
-use Rattle.division.proofs.Progress.{turn_ready}
+use Rattle.division.proofs.Advance.{turn_ready}
 
 -- what terms show: exponents up to 255
 pub view-small : (ts : List Term) → all_small (view ts) ≡ true

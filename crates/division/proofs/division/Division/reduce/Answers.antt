@@ -12,7 +12,7 @@ use Rattle.polynomial.proofs.Outcomes.{not_made}
 use Rattle.polynomial.proofs.Viewing.{view-length}
 use Rattle.division.specs.Elements.{elements}
 use Rattle.division.specs.Limits.{Outcome}
-use Rattle.division.proofs.Progress.{turn_ready, turn-onward, turn_stops}
+use Rattle.division.proofs.Advance.{turn_ready, turn-onward, turn_stops}
 use Rattle.division.proofs.Settling.{settles}
 use Rattle.division.proofs.Turning.{view-small, each-element}
 use Rattle.division.proofs.Turns.{Onward, begun, ended}
