@@ -1,5 +1,5 @@
 -- What is decided of one pair, and of all that a finish divides. Assumes nothing.
---   left-over j l    the pair (j, l) leaves a remainder, and is refused for that; or it does not; or a limit was met
+--   left_over j l    the pair (j, l) leaves a remainder, and is refused for that; or it does not; or a limit was met
 --   all_vanish       every generator, and then every pair, divides to 0
 use Rattle.std.specs.Prelude.{ℕ, Bool, not, List, Result}
 use Rattle.field.specs.Fields.{Arithmetic}

@@ -1,6 +1,7 @@
 -- Three monomial orders, by meaning. Assumes nothing.
---   rank, thenBy, reversed    std's words: how one number stands to another; the first verdict, or the second
---                             where the first is Equal; Less and Greater exchanged
+--   nat_cmp                   std's word: how one number stands to another
+--   ordering_then             std's word: the first verdict, or the second where the first is Equal
+--   ordering_reverse          std's word: Less and Greater exchanged
 --   lex                       the first differing exponent decides: the greater is higher
 --   degree, by_degree         the sum of the exponents; the greater degree is higher
 --   backward, backward_lex    the last exponent first; the last differing exponent decides: the smaller is higher
