@@ -56,14 +56,14 @@ first = ((1, 1 ∷ 0 ∷ []), (1, 0 ∷ 1 ∷ []) ∷ (1, 0 ∷ 0 ∷ []) ∷ []
 abbrev pub second : RawElement
 second = ((1, 0 ∷ 2 ∷ []), (1, 0 ∷ 1 ∷ []) ∷ [])
 
-abbrev pub by_both : Raw → Raw → Type 0
-by_both = Leaves (ring (residues 2) 2 lex) (first ∷ second ∷ [])
+abbrev pub ByBoth : Raw → Raw → Type 0
+ByBoth = Leaves (ring (residues 2) 2 lex) (first ∷ second ∷ [])
 
 pub record TwoVariables : Type 0 where
-  pub product_vanishes : by_both ((1, 1 ∷ 1 ∷ []) ∷ []) []
-  pub element_vanishes : by_both ((1, 1 ∷ 0 ∷ []) ∷ (1, 0 ∷ 1 ∷ []) ∷ (1, 0 ∷ 0 ∷ []) ∷ []) []
-  pub square_vanishes : by_both ((1, 2 ∷ 0 ∷ []) ∷ (1, 1 ∷ 0 ∷ []) ∷ []) []
-  pub sum_leaves_1 : by_both ((1, 1 ∷ 0 ∷ []) ∷ (1, 0 ∷ 1 ∷ []) ∷ []) ((1, 0 ∷ 0 ∷ []) ∷ [])
+  pub product_vanishes : ByBoth ((1, 1 ∷ 1 ∷ []) ∷ []) []
+  pub element_vanishes : ByBoth ((1, 1 ∷ 0 ∷ []) ∷ (1, 0 ∷ 1 ∷ []) ∷ (1, 0 ∷ 0 ∷ []) ∷ []) []
+  pub square_vanishes : ByBoth ((1, 2 ∷ 0 ∷ []) ∷ (1, 1 ∷ 0 ∷ []) ∷ []) []
+  pub sum_leaves_1 : ByBoth ((1, 1 ∷ 0 ∷ []) ∷ (1, 0 ∷ 1 ∷ []) ∷ []) ((1, 0 ∷ 0 ∷ []) ∷ [])
   pub alone : Leaves (ring (residues 2) 2 lex) (first ∷ []) ((1, 1 ∷ 1 ∷ []) ∷ []) ((1, 0 ∷ 2 ∷ []) ∷ (1, 0 ∷ 1 ∷ []) ∷ [])
 
 -- a³+5ab and a²b+5b²+a
