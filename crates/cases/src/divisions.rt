@@ -11,7 +11,6 @@ use field::{BinaryField, Field, PrimeField};
 use order::{Graded, Lex, MonomialOrder, Reverse};
 use polynomial::{Polynomial, PolynomialList, Ring, TableSize, are_equal};
 use std::alloc::{AllocError, Global};
-use std::process::Abort;
 use std::test::Fail;
 
 mod rows;
@@ -71,7 +70,6 @@ fn read<F: Field, O: MonomialOrder>(
 }
 
 fn read_list<F: Field, O: MonomialOrder>(
-    rt: &impl Abort,
     ring: &Ring<F, O>,
     heap: Global,
     texts: &[&str],
@@ -81,35 +79,34 @@ fn read_list<F: Field, O: MonomialOrder>(
     let mut list = PolynomialList::new(heap)?;
     for text in texts {
         let polynomial = read(ring, heap, text)?;
-        assert!(rt; list.push(polynomial.terms()));
+        if !list.push(polynomial.terms()) {
+            return Err(Fail::new("there are more polynomials than a list holds"));
+        }
     }
     Ok(list)
 }
 
 fn check_remainder<F: Field, O: MonomialOrder>(
-    rt: &impl Abort,
     ring: &Ring<F, O>,
     heap: Global,
     dividend: &str,
     elements: &[&str],
     answer: &str,
 ) -> Result<(), Fail> {
-    let list = read_list(rt, ring, heap, elements)?;
+    let list = read_list(ring, heap, elements)?;
     let dividend = read(ring, heap, dividend)?;
     let expected = read(ring, heap, answer)?;
     let mut division = Division::new(heap)?;
     let Ok(()) = division.divide(ring, &list, dividend.terms()) else {
         return Err(Fail::new(format_args!("the division meets a limit, not {answer}")));
     };
-    assert!(rt;
-        are_equal(division.remainder(), expected.terms()),
-        "the remainder is not {answer}"
-    );
+    if !are_equal(division.remainder(), expected.terms()) {
+        return Err(Fail::new(format_args!("the remainder is not {answer}")));
+    }
     Ok(())
 }
 
 fn check_s_polynomial<F: Field, O: MonomialOrder>(
-    rt: &impl Abort,
     ring: &Ring<F, O>,
     heap: Global,
     g: &str,
@@ -123,54 +120,49 @@ fn check_s_polynomial<F: Field, O: MonomialOrder>(
     let Ok(()) = division.load_s_polynomial(ring, g.terms(), h.terms()) else {
         return Err(Fail::new(format_args!("the S-polynomial meets a limit, not {answer}")));
     };
-    assert!(rt;
-        are_equal(division.dividend(), expected.terms()),
-        "the S-polynomial is not {answer}"
-    );
+    if !are_equal(division.dividend(), expected.terms()) {
+        return Err(Fail::new(format_args!("the S-polynomial is not {answer}")));
+    }
     Ok(())
 }
 
 fn check_in<F: Field + Drop, O: MonomialOrder + Drop>(
-    rt: &impl Abort,
     field: F,
     order: O,
     heap: Global,
     row: &Row,
 ) -> Result<(), Fail> {
     let mut ring = Ring::new(field, order);
-    assert!(rt; ring.set_variables(row.variables));
+    if !ring.set_variables(row.variables) {
+        return Err(Fail::new("there are not so many variables"));
+    }
     match row.question {
         Question::Remainder { dividend, elements } => {
-            check_remainder(rt, &ring, heap, dividend, elements, row.answer)
+            check_remainder(&ring, heap, dividend, elements, row.answer)
         }
-        Question::Pair { g, h } => check_s_polynomial(rt, &ring, heap, g, h, row.answer),
+        Question::Pair { g, h } => check_s_polynomial(&ring, heap, g, h, row.answer),
     }
 }
 
-fn check_over<F: Field + Drop>(
-    rt: &impl Abort,
-    field: F,
-    heap: Global,
-    row: &Row,
-) -> Result<(), Fail> {
+fn check_over<F: Field + Drop>(field: F, heap: Global, row: &Row) -> Result<(), Fail> {
     match row.order {
-        Order::Lex => check_in(rt, field, Lex, heap, row),
-        Order::Graded => check_in(rt, field, Graded, heap, row),
-        Order::Reverse => check_in(rt, field, Reverse, heap, row),
+        Order::Lex => check_in(field, Lex, heap, row),
+        Order::Graded => check_in(field, Graded, heap, row),
+        Order::Reverse => check_in(field, Reverse, heap, row),
     }
 }
 
-fn check_row(rt: &impl Abort, heap: Global, row: &Row) -> Result<(), Fail> {
+fn check_row(heap: Global, row: &Row) -> Result<(), Fail> {
     match row.coefficients {
-        Coefficients::Residues(size) => check_over(rt, PrimeField::new(size)?, heap, row),
-        Coefficients::Bits(size) => check_over(rt, BinaryField::new(size)?, heap, row),
+        Coefficients::Residues(size) => check_over(PrimeField::new(size)?, heap, row),
+        Coefficients::Bits(size) => check_over(BinaryField::new(size)?, heap, row),
     }
 }
 
 #[test]
 fn outside_answers(rt: HostRuntime) -> Result<(), Fail> {
     for row in &ROWS {
-        check_row(&rt, rt.alloc(), row)?;
+        check_row(rt.alloc(), row)?;
     }
     Ok(())
 }
