@@ -1,6 +1,6 @@
 pub mod Holding
 pub mod Vanishing
-pub mod Promises
+pub mod Reaching
 pub mod Tables
 pub mod Asked
 pub mod Sequencing

@@ -1,23 +1,21 @@
 -- Calls made one after another: what holds on the way. Each call goes on from the run before it by what that call promises.
-use Rattle.std.proofs.Common.{◌≡◌, ℕ, ◌+◌, ◌<◌, List, [], ◌∷◌, ◌++◌, map, length, get_or, drop, sym, refl, ap, ◌∙◌, subst, ap₂, append_assoc, append-nil}
+use Rattle.std.proofs.Common.{◌≡◌, ℕ, ◌+◌, ◌<◌, List, [], ◌∷◌, ◌++◌, map, length, get_or, drop, Some, None, Ok, Err, sym, refl, ap, ◌∙◌, subst, ap₂, append_assoc, append-nil}
 use Rattle.std.proofs.lemmas.List.{drop_more}
 use Rattle.field.specs.Fields.{Arithmetic, FieldLaws}
 use Rattle.order.specs.Orders.{Compare, OrderLaws}
 use Rattle.run.specs.Calls.{hear}
-use Rattle.run.specs.Hears.{Hears}
+use Rattle.run.specs.Hears.{Goes}
 use Rattle.run.specs.Models.{Model, fresh, Call as Request}
 use Rattle.run.specs.Runs.{model_of, Laws}
 use Rattle.run.proofs.RunLaws as run_laws
-use Rattle.calls.specs.Sequences.{request, replied, spoken, left_by, requests, answers, left, Sequence}
+use Rattle.calls.specs.Sequences.{Reply, request, replied, spoken, left_by, requests, answers, left, Sequence}
 use Rattle.calls.specs.declared.call.Call.{Call}
 use Rattle.calls.specs.declared.call.Call.TheVariants.{Open as OpenCall}
-use Rattle.calls.specs.declared.call.Reply.{Reply}
-use Rattle.calls.specs.declared.call.Reply.TheVariants.{Done as DoneReply, Told as ToldReply, Refused as RefusedReply}
 
 reply_again : (r : Reply) (after : List ℕ) → replied (spoken r after) ≡ r
-reply_again DoneReply after = refl
-reply_again (ToldReply number) after = refl
-reply_again (RefusedReply e) after = refl
+reply_again (Ok None) after = refl
+reply_again (Ok (Some number)) after = refl
+reply_again (Err e) after = refl
 
 module _ (k : Arithmetic) (cmp : Compare) (calls : List Call) (table : List ℕ) where
   -- the calls of `past` are made, m is held, `result` is the result table, and the calls of `rest` are to come
@@ -41,16 +39,17 @@ module _ (k : Arithmetic) (cmp : Compare) (calls : List Call) (table : List ℕ)
 
   -- call number i is made; OpenCall 0 stands for a call that is not there
   pub gone_on : (i : ℕ) (m m' : Model) (result result' : List ℕ) (replies : List Reply) (r : Reply)
-      → Hears k cmp m (request (get_or calls i (OpenCall 0)) result) (spoken r result') m' → result' ≡ left_by (spoken r result') result
+      → (spoken r result', m') ≡ hear k cmp m (request (get_or calls i (OpenCall 0)) result)
+      → ((past : List Request) → model_of k cmp past ≡ m → Goes k cmp past (request (get_or calls i (OpenCall 0)) result) (spoken r result') m') → result' ≡ left_by (spoken r result') result
       → i < length calls → Underway (drop i calls) m result replies → Underway (drop (i + 1) calls) m' result' (replies ++ (r ∷ []))
-  gone_on i m m' result result' replies r hears after within u =
+  gone_on i m m' result result' replies r heard runs after within u =
       let rest = drop (i + 1) calls in
       let c = get_or calls i (OpenCall 0) in
       let is : drop i calls ≡ c ∷ rest = drop_more calls i (OpenCall 0) within in
       let q = request c result in
-      let goes = hears.runs u.past u.leads in
-      let said = ap (λ x. x.0) hears.heard in
-      let holds = ap (λ x. x.1) hears.heard in
+      let goes = runs u.past u.leads in
+      let said = ap (λ x. x.0) heard in
+      let holds = ap (λ x. x.1) heard in
       let table_is : left_by (hear k cmp m q).0 result ≡ result' = ap (λ a. left_by a result) (sym said) ∙ sym after in
       record {
         past = u.past ++ (q ∷ []);

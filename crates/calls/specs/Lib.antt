@@ -1,3 +1,4 @@
+pub mod Held
 pub mod Shown
 pub mod Pairs
 pub mod Asking

@@ -1,28 +1,20 @@
 // The six calls as values, and what is said to them.
+use combination::Offered;
 use fault::Fault;
 
 // A call with what is handed in.
-#[derive(Clone, Copy)]
+#[derive(Clone, Copy, PartialEq, Eq, Debug)]
 pub enum Call<'a> {
     // the number of variables
     Open(usize),
     // the generator's table
     Rule(&'a [u16]),
     Close,
-    Offer {
-        table: &'a [u16],
-        cofactors: &'a [u16],
-        counts: &'a [u16],
-    },
+    Offer(Offered<'a>),
     Finish,
     // the table of what is asked about
     Question(&'a [u16]),
 }
 
-#[derive(Clone, Copy)]
-pub enum Reply {
-    Done,
-    // the number of terms of the remainder
-    Told(usize),
-    Refused(Fault),
-}
+// Of an answered question the number of terms of the remainder, and of another call that is done nothing.
+pub type Reply = Result<Option<usize>, Fault>;

@@ -2,10 +2,10 @@
 #![tactic(auto)]
 
 mod call;
-mod checker;
+mod held;
 mod sequence;
 mod writing;
 
 pub use call::{Call, Reply};
-pub use checker::Checker;
+pub use held::Checker;
 pub use sequence::run_calls;

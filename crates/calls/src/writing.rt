@@ -24,6 +24,7 @@ pub(crate) fn write_terms(terms: &[Term], result_table: &mut [u16])
     ensures { result_table.new ≡ written (view terms.now) result_table.old }
 {
     let mut start = 0;
+    // where a term ends the next one begins: an iterator over equal parts would need the number of variables beside
     for term in terms {
         start += write_term(term, &mut result_table[start..]);
     }

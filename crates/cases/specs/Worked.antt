@@ -13,8 +13,8 @@ use Rattle.order.specs.Listed.{lex, graded, reverse}
 use Rattle.ideal.specs.Polynomials.{combination}
 use Rattle.ideal.specs.Rings.{Raw, RawElement, ring}
 use Rattle.ideal.specs.Dividing.{Leaves, s_polynomial}
-use Rattle.checker.specs.Checks.{check_element}
-use Rattle.checker.specs.declared.fault.Fault.TheVariants.{NotTheSum}
+use Rattle.fault.specs.declared.fault.Fault.TheVariants.{NotTheSum}
+use Rattle.combination.specs.Checks.{check_element}
 
 abbrev pub x : List ℕ
 x = 3 ∷ 0 ∷ 0 ∷ []

@@ -6,10 +6,11 @@ ghost use Rattle.polynomial.specs.Rings.{Within};
 ghost use Rattle.polynomial.specs.Views.{view};
 
 use crate::divisions::rows::{Coefficients, Order, Question, ROWS, Row};
-use division::Division;
+use crate::reading;
+use division::{Division, Pair};
 use field::{BinaryField, Field, PrimeField};
 use order::{Graded, Lex, MonomialOrder, Reverse};
-use polynomial::{Polynomial, PolynomialList, Ring, TableSize, are_equal};
+use polynomial::{Family, Polynomial, PolynomialList, Ring, TableSize, Term, are_equal};
 use std::alloc::{AllocError, Global};
 use std::test::Fail;
 
@@ -27,16 +28,16 @@ fn push_term(table: &mut Vec<u16>, variables: usize, term: &str) -> Result<(), A
     let mut number = 0;
     for byte in term.as_bytes() {
         match *byte {
-            b'0'..=b'9' => number = number % 1000 * 10 + (*byte - b'0') as u16,
+            b'0'..=b'9' => number = number % 1000 * 10 + u16::from(*byte - b'0'),
             b'a'..=b'x' => {
-                numbers[place] = if number == 0 { 1 } else { number };
-                place = (*byte - b'a') as usize + 1;
+                numbers[place] = number.max(1);
+                place = usize::from(*byte - b'a') + 1;
                 number = 0;
             }
             _ => {}
         }
     }
-    numbers[place] = if number == 0 { 1 } else { number };
+    numbers[place] = number.max(1);
     table.extend_from_slice(&numbers[..variables + 1])
 }
 
@@ -58,15 +59,11 @@ fn read<F: Field, O: MonomialOrder>(
     heap: Global,
     text: &str,
 ) -> Result<Polynomial, Fail>
-    ensures within { IfOk result (λ p. Within F.arithmetic O.comparison ring.now (view p.terms.items)) }
+    ensures within { IfOk result (λ p. Within ring.now (view p.terms.items)) }
     ensures few { IfOk result (λ p. length p.terms.items ≤ 32) }
 {
     let table = table_of(heap, ring.variables(), text)?;
-    let mut polynomial = Polynomial::new(heap)?;
-    let Ok(()) = ring.read(TableSize::Short, table.as_slice(), &mut polynomial) else {
-        return Err(Fail::new(format_args!("{text} does not read")));
-    };
-    Ok(polynomial)
+    reading::read(ring, heap, TableSize::Short, table.as_slice())
 }
 
 fn read_list<F: Field, O: MonomialOrder>(
@@ -74,16 +71,21 @@ fn read_list<F: Field, O: MonomialOrder>(
     heap: Global,
     texts: &[&str],
 ) -> Result<PolynomialList, Fail>
-    ensures { IfOk result (λ l. Each (Within F.arithmetic O.comparison ring.now) (polynomials l)) }
+    ensures { IfOk result (λ l. Each (Within ring.now) (polynomials l)) }
 {
     let mut list = PolynomialList::new(heap)?;
     for text in texts {
         let polynomial = read(ring, heap, text)?;
-        if !list.push(polynomial.terms()) {
-            return Err(Fail::new("there are more polynomials than a list holds"));
-        }
+        list.push(polynomial.terms())?;
     }
     Ok(list)
+}
+
+fn compare(found: &[Term], expected: &[Term], answer: &str) -> Result<(), Fail> {
+    if !are_equal(found, expected) {
+        return Err(Fail::new(format_args!("what is found is not {answer}")));
+    }
+    Ok(())
 }
 
 fn check_remainder<F: Field, O: MonomialOrder>(
@@ -97,13 +99,9 @@ fn check_remainder<F: Field, O: MonomialOrder>(
     let dividend = read(ring, heap, dividend)?;
     let expected = read(ring, heap, answer)?;
     let mut division = Division::new(heap)?;
-    let Ok(()) = division.divide(ring, &list, dividend.terms()) else {
-        return Err(Fail::new(format_args!("the division meets a limit, not {answer}")));
-    };
-    if !are_equal(division.remainder(), expected.terms()) {
-        return Err(Fail::new(format_args!("the remainder is not {answer}")));
-    }
-    Ok(())
+    let family = Family { ring, list: &list };
+    division.divide(&family, dividend.terms())?;
+    compare(division.remainder(), expected.terms(), answer)
 }
 
 fn check_s_polynomial<F: Field, O: MonomialOrder>(
@@ -117,13 +115,13 @@ fn check_s_polynomial<F: Field, O: MonomialOrder>(
     let h = read(ring, heap, h)?;
     let expected = read(ring, heap, answer)?;
     let mut division = Division::new(heap)?;
-    let Ok(()) = division.load_s_polynomial(ring, g.terms(), h.terms()) else {
-        return Err(Fail::new(format_args!("the S-polynomial meets a limit, not {answer}")));
+    let pair = Pair {
+        ring,
+        first: g.terms(),
+        second: h.terms(),
     };
-    if !are_equal(division.dividend(), expected.terms()) {
-        return Err(Fail::new(format_args!("the S-polynomial is not {answer}")));
-    }
-    Ok(())
+    division.load_s_polynomial(&pair)?;
+    compare(division.dividend(), expected.terms(), answer)
 }
 
 fn check_in<F: Field + Drop, O: MonomialOrder + Drop>(
@@ -133,9 +131,7 @@ fn check_in<F: Field + Drop, O: MonomialOrder + Drop>(
     row: &Row,
 ) -> Result<(), Fail> {
     let mut ring = Ring::new(field, order);
-    if !ring.set_variables(row.variables) {
-        return Err(Fail::new("there are not so many variables"));
-    }
+    ring.set_variables(row.variables)?;
     match row.question {
         Question::Remainder { dividend, elements } => {
             check_remainder(&ring, heap, dividend, elements, row.answer)

@@ -14,6 +14,8 @@ mod monomials;
 #[cfg(test)]
 mod orders;
 #[cfg(test)]
+mod reading;
+#[cfg(test)]
 mod refusals;
 #[cfg(test)]
 mod steps;

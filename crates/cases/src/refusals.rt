@@ -1,7 +1,7 @@
 // Every refusal once, by its five numbers: residues modulo 7, one variable, lex.
-ghost use Rattle.checker.specs.Checks.{Standing};
-
-use checker::{Checker, Fault, FaultNumbers};
+use checker::ElementChecker;
+use combination::Offered;
+use fault::{Fault, FaultNumbers};
 use field::{Field, FieldFault, PrimeField};
 use order::{Lex, MonomialOrder};
 use std::test::Fail;
@@ -23,22 +23,38 @@ fn five(
 }
 
 fn numbers(answer: Result<(), Fault>) -> Option<FaultNumbers> {
-    match answer {
-        Ok(()) => None,
-        Err(fault) => Some(fault.numbers()),
-    }
+    answer.err().map(|fault| fault.numbers())
+}
+
+fn add<F: Field + Drop, O: MonomialOrder + Drop>(
+    checker: &mut ElementChecker<F, O>,
+    table: &[u16],
+) -> Option<FaultNumbers> {
+    numbers(checker.add_generator(table))
+}
+
+fn offer<F: Field + Drop, O: MonomialOrder + Drop>(
+    checker: &mut ElementChecker<F, O>,
+    number: usize,
+    table: &[u16],
+    cofactors: &[u16],
+    counts: &[u16],
+) -> Option<FaultNumbers> {
+    let offered = Offered {
+        table,
+        cofactors,
+        counts,
+    };
+    numbers(checker.check_element(number, &offered))
 }
 
 // Adds the generator 0 again and again: how many were taken before one was refused, and why it was.
 fn fill<F: Field + Drop, O: MonomialOrder + Drop>(
-    checker: &mut Checker<F, O>,
-) -> (usize, Option<FaultNumbers>)
-    requires { Standing F.arithmetic O.comparison checker.old }
-    ensures { Standing F.arithmetic O.comparison checker.new }
-{
+    checker: &mut ElementChecker<F, O>,
+) -> (usize, Option<FaultNumbers>) {
     for taken in 0..40 {
-        if let Err(fault) = checker.add_generator(&[]) {
-            return (taken, Some(fault.numbers()));
+        if let Some(refusal) = add(checker, &[]) {
+            return (taken, Some(refusal));
         }
     }
     (40, None)
@@ -46,7 +62,7 @@ fn fill<F: Field + Drop, O: MonomialOrder + Drop>(
 
 #[test]
 fn thirty_two_generators(rt: HostRuntime) -> Result<(), Fail> {
-    let mut checker = Checker::new(rt.alloc(), PrimeField::new(7)?, Lex)?;
+    let mut checker = ElementChecker::new(rt.alloc(), PrimeField::new(7)?, Lex)?;
     let (taken, refusal) = fill(&mut checker);
     assert_eq!(rt; taken, 32);
     assert_eq!(rt; refusal, five(3, 4, 0, 0, 0));
@@ -56,72 +72,45 @@ fn thirty_two_generators(rt: HostRuntime) -> Result<(), Fail> {
 #[test]
 fn tables(rt: HostRuntime) -> Result<(), Fail> {
     let field = PrimeField::new(7)?;
-    let mut checker = Checker::new(rt.alloc(), field, Lex)?;
-    assert_eq!(rt;
-        numbers(checker.add_generator(&[1, 1, 5])),
-        five(4, 2, 1, 0, 0)
-    );
-    assert_eq!(rt;
-        numbers(checker.add_generator(&[1; 66])),
-        five(5, 2, 1, 0, 0)
-    );
-    assert_eq!(rt;
-        numbers(checker.add_generator(&[0, 300])),
-        five(6, 2, 1, 0, 0)
-    );
-    assert_eq!(rt;
-        numbers(checker.add_generator(&[1, 2, 7, 1])),
-        five(6, 2, 1, 0, 1)
-    );
-    assert_eq!(rt;
-        numbers(checker.add_generator(&[1, 256])),
-        five(7, 2, 1, 0, 0)
-    );
-    assert_eq!(rt;
-        numbers(checker.add_generator(&[1, 255, 1, 255])),
-        five(8, 2, 1, 0, 1)
-    );
-    assert_eq!(rt; numbers(checker.add_generator(&[])), None);
+    let mut checker = ElementChecker::new(rt.alloc(), field, Lex)?;
+    assert_eq!(rt; add(&mut checker, &[1, 1, 5]), five(4, 2, 1, 0, 0));
+    assert_eq!(rt; add(&mut checker, &[1; 66]), five(5, 2, 1, 0, 0));
+    assert_eq!(rt; add(&mut checker, &[0, 300]), five(6, 2, 1, 0, 0));
+    assert_eq!(rt; add(&mut checker, &[1, 2, 7, 1]), five(6, 2, 1, 0, 1));
+    assert_eq!(rt; add(&mut checker, &[1, 256]), five(7, 2, 1, 0, 0));
+    assert_eq!(rt; add(&mut checker, &[1, 255, 1, 255]), five(8, 2, 1, 0, 1));
+    assert_eq!(rt; add(&mut checker, &[]), None);
     Ok(())
 }
 
 #[test]
 fn elements(rt: HostRuntime) -> Result<(), Fail> {
     let field = PrimeField::new(7)?;
-    let mut checker = Checker::new(rt.alloc(), field, Lex)?;
-    assert_eq!(rt; numbers(checker.add_generator(&[1, 1, 5, 0])), None);
+    let mut checker = ElementChecker::new(rt.alloc(), field, Lex)?;
+    assert_eq!(rt; add(&mut checker, &[1, 1, 5, 0]), None);
+    assert_eq!(rt; offer(&mut checker, 3, &[1], &[], &[]), five(4, 2, 2, 3, 0));
+    assert_eq!(rt; offer(&mut checker, 3, &[], &[], &[]), five(9, 2, 2, 3, 0));
     assert_eq!(rt;
-        numbers(checker.check_element(3, &[1], &[], &[])),
-        five(4, 2, 2, 3, 0)
-    );
-    assert_eq!(rt;
-        numbers(checker.check_element(3, &[], &[], &[])),
-        five(9, 2, 2, 3, 0)
-    );
-    assert_eq!(rt;
-        numbers(checker.check_element(3, &[1, 0], &[], &[])),
+        offer(&mut checker, 3, &[1, 0], &[], &[]),
         five(10, 2, 0, 0, 0)
     );
     assert_eq!(rt;
-        numbers(checker.check_element(3, &[1, 0], &[1, 0, 1], &[1])),
+        offer(&mut checker, 3, &[1, 0], &[1, 0, 1], &[1]),
         five(4, 2, 3, 0, 0)
     );
     assert_eq!(rt;
-        numbers(checker.check_element(3, &[1, 0], &[1, 1, 8, 0], &[2])),
+        offer(&mut checker, 3, &[1, 0], &[1, 1, 8, 0], &[2]),
         five(6, 2, 3, 0, 1)
     );
     assert_eq!(rt;
-        numbers(checker.check_element(3, &[1, 0], &[1, 255], &[1])),
+        offer(&mut checker, 3, &[1, 0], &[1, 255], &[1]),
         five(11, 3, 3, 0, 0)
     );
     assert_eq!(rt;
-        numbers(checker.check_element(3, &[1, 0], &[1, 0], &[1])),
+        offer(&mut checker, 3, &[1, 0], &[1, 0], &[1]),
         five(13, 4, 2, 3, 0)
     );
-    assert_eq!(rt;
-        numbers(checker.check_element(3, &[1, 1, 5, 0], &[1, 0], &[1])),
-        None
-    );
+    assert_eq!(rt; offer(&mut checker, 3, &[1, 1, 5, 0], &[1, 0], &[1]), None);
     Ok(())
 }
 
@@ -136,18 +125,18 @@ fn fields(rt: HostRuntime) {
 // x² + x − 2 and x² − 3x + 2 have the combination x − 1 with the cofactors ¼ and −¼: a textbook's example, modulo 7 and modulo 11.
 #[test]
 fn textbook_combination(rt: HostRuntime) -> Result<(), Fail> {
-    let mut by_7 = Checker::new(rt.alloc(), PrimeField::new(7)?, Lex)?;
-    assert_eq!(rt; numbers(by_7.add_generator(&[1, 2, 1, 1, 5, 0])), None);
-    assert_eq!(rt; numbers(by_7.add_generator(&[1, 2, 4, 1, 2, 0])), None);
+    let mut by_7 = ElementChecker::new(rt.alloc(), PrimeField::new(7)?, Lex)?;
+    assert_eq!(rt; add(&mut by_7, &[1, 2, 1, 1, 5, 0]), None);
+    assert_eq!(rt; add(&mut by_7, &[1, 2, 4, 1, 2, 0]), None);
     assert_eq!(rt;
-        numbers(by_7.check_element(0, &[1, 1, 6, 0], &[2, 0, 5, 0], &[1, 1])),
+        offer(&mut by_7, 0, &[1, 1, 6, 0], &[2, 0, 5, 0], &[1, 1]),
         None
     );
-    let mut by_11 = Checker::new(rt.alloc(), PrimeField::new(11)?, Lex)?;
-    assert_eq!(rt; numbers(by_11.add_generator(&[1, 2, 1, 1, 9, 0])), None);
-    assert_eq!(rt; numbers(by_11.add_generator(&[1, 2, 8, 1, 2, 0])), None);
+    let mut by_11 = ElementChecker::new(rt.alloc(), PrimeField::new(11)?, Lex)?;
+    assert_eq!(rt; add(&mut by_11, &[1, 2, 1, 1, 9, 0]), None);
+    assert_eq!(rt; add(&mut by_11, &[1, 2, 8, 1, 2, 0]), None);
     assert_eq!(rt;
-        numbers(by_11.check_element(0, &[1, 1, 10, 0], &[3, 0, 8, 0], &[1, 1])),
+        offer(&mut by_11, 0, &[1, 1, 10, 0], &[3, 0, 8, 0], &[1, 1]),
         None
     );
     Ok(())

@@ -1,4 +1,0 @@
-pub mod Adding
-pub mod Parts
-pub mod Elements
-pub mod Verdicts

@@ -1,11 +1,6 @@
-// Checks that an offered basis element is the stated combination of the generators.
+// Holds generators, and checks that an offered basis element is the stated combination of them.
 #![tactic(auto)]
 
 mod checker;
-mod combination;
-mod fault;
-mod numbers;
 
-pub use checker::Checker;
-pub use fault::{ArithmeticFault, Fault, Place, TableFault, Work};
-pub use numbers::FaultNumbers;
+pub use checker::ElementChecker;

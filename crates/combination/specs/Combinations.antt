@@ -8,18 +8,21 @@
 --   sum_cofactors       all cofactors read from their parts, and then all products added, from 0
 --   stopped             the fault of a limit met in some work
 --   forgotten           whether there was an answer, without it
-use Rattle.std.specs.Prelude.{ℕ, suc, ◌*◌, List, [], ◌∷◌, map, Ok, Err, Result}
+--   laid_out            as many counts as generators, and a table with just the numbers that the counts ask for
+use Rattle.std.specs.Prelude.{ℕ, suc, ◌*◌, List, [], ◌∷◌, map, length, Ok, Err, Result, ◌==◌}
 use Rattle.field.specs.Fields.{Arithmetic}
 use Rattle.order.specs.Orders.{Compare}
 use Rattle.ideal.specs.Polynomials.{Operations}
 use Rattle.ideal.specs.Rings.{Raw, ring}
+use Rattle.polynomial.specs.Cuts.{total}
 use Rattle.polynomial.specs.Limits.{step}
-use Rattle.polynomial.specs.Results.{◌>>=◌, because}
+use Rattle.polynomial.specs.Results.{◌>>=◌, ◌>>◌, check, because}
 use Rattle.polynomial.specs.Tables.{read}
+use Rattle.polynomial.specs.declared.flaw.Flaw.TheVariants.{Length}
 use Rattle.polynomial.specs.declared.flaw.Limit.{Limit}
 use Rattle.fault.specs.declared.fault.Place.TheVariants.{Cofactor}
 use Rattle.fault.specs.declared.fault.TableFault.{TableFault}
-use Rattle.fault.specs.declared.fault.TableFault.TheVariants.{Flawed}
+use Rattle.fault.specs.declared.fault.TableFault.TheVariants.{Flawed, CofactorCount}
 use Rattle.fault.specs.declared.fault.Work.{Work}
 use Rattle.fault.specs.declared.fault.Work.TheVariants.{CofactorTerm}
 use Rattle.fault.specs.declared.fault.ArithmeticFault.{ArithmeticFault}
@@ -35,6 +38,9 @@ stopped work limit = record { work = work; limit = limit }
 abbrev pub forgotten : {E A : Type 0} → Result A E → Result (Unit {0}) E
 forgotten (Ok a) = Ok tt
 forgotten (Err e) = Err e
+
+abbrev pub laid_out : ℕ → List Raw → List ℕ → List ℕ → Result (Unit {0}) TableFault
+laid_out n generators counts cofactor_table = check (length counts == length generators) CofactorCount >> check (length cofactor_table == total counts * suc n) (Flawed (Cofactor 0) Length)
 
 module _ (k : Arithmetic) (n : ℕ) (cmp : Compare) where
   abbrev pub read_cofactor : ℕ → List ℕ → Result Raw TableFault

@@ -3,6 +3,7 @@
 
 mod check;
 mod combination;
+mod table;
 
-pub use check::ElementCheck;
+pub use check::{ElementCheck, Offered};
 pub use combination::{in_table, in_work};

@@ -5,6 +5,7 @@
 mod show;
 mod walk;
 
+use combination::Offered;
 use walk::{Sheet, check_and_tell};
 
 // Residues modulo 7, one variable: the generators a³ + 6a² + 5a and a² + 4a + 2, and the element a + 5.
@@ -26,11 +27,13 @@ fn tables<'a>(cofactors: &'a [u16; 6]) -> Sheet<'a> {
     Sheet {
         first_generator: &FIRST_GENERATOR,
         second_generator: &SECOND_GENERATOR,
-        element: &ELEMENT,
-        first_cofactor: &cofactors[0..2],
-        second_cofactor: &cofactors[2..6],
-        cofactors,
-        counts: &COUNTS,
+        first_cofactor: &cofactors[..2],
+        second_cofactor: &cofactors[2..],
+        offered: Offered {
+            table: &ELEMENT,
+            cofactors,
+            counts: &COUNTS,
+        },
     }
 }
 

@@ -2,9 +2,16 @@
 use polynomial::Term;
 use std::fmt;
 
+// A polynomial.
 #[derive(Clone, Copy)]
 pub struct Shown<'a> {
     pub terms: &'a [Term],
+}
+
+// A term.
+#[derive(Clone, Copy)]
+pub struct ShownTerm<'a> {
+    pub term: &'a Term,
 }
 
 fn show_variable<W: fmt::Write>(
@@ -20,39 +27,32 @@ fn show_variable<W: fmt::Write>(
     }
 }
 
-fn is_unit(exponents: &[u16]) -> bool {
-    for exponent in exponents {
-        if *exponent != 0 {
-            return false;
+impl fmt::Display for ShownTerm<'_> {
+    fn fmt<W: fmt::Write>(&self, f: &mut fmt::Formatter<W>) -> fmt::Result {
+        let exponents = self.term.monomial.exponents();
+        let coefficient = self.term.coefficient;
+        if coefficient != 1 || exponents.iter().all(|exponent| *exponent == 0) {
+            write!(f, "{coefficient}")?;
         }
-    }
-    true
-}
-
-fn show_term<W: fmt::Write>(f: &mut fmt::Formatter<W>, term: &Term) -> fmt::Result {
-    let exponents = term.monomial.exponents();
-    let coefficient = term.coefficient;
-    if coefficient != 1 || is_unit(exponents) {
-        write!(f, "{coefficient}")?;
-    }
-    for (variable, exponent) in exponents.iter().enumerate() {
-        if *exponent != 0 {
-            show_variable(f, variable, *exponent)?;
+        for (variable, exponent) in exponents.iter().enumerate() {
+            if *exponent != 0 {
+                show_variable(f, variable, *exponent)?;
+            }
         }
+        Ok(())
     }
-    Ok(())
 }
 
 impl fmt::Display for Shown<'_> {
     fn fmt<W: fmt::Write>(&self, f: &mut fmt::Formatter<W>) -> fmt::Result {
-        if self.terms.is_empty() {
+        let [leading, rest @ ..] = self.terms else {
             return f.write_str("0");
-        }
-        for (i, term) in self.terms.iter().enumerate() {
-            if i > 0 {
-                f.write_str(" + ")?;
-            }
-            show_term(f, term)?;
+        };
+        let leading = ShownTerm { term: leading };
+        write!(f, "{leading}")?;
+        for term in rest {
+            let term = ShownTerm { term };
+            write!(f, " + {term}")?;
         }
         Ok(())
     }

@@ -5,6 +5,7 @@ pub mod Settling
 pub mod Progress
 pub mod Advance
 pub mod Coefficients
+pub mod Leading
 pub mod Searching
 pub mod Cancelling
 pub mod Turning

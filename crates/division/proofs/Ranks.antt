@@ -121,8 +121,8 @@ module _ (n : ℕ) (f g : List ℕ → Bool) (more : (m : List ℕ) → length m
 
 less_is : (d : Ordering) → is_less d ≡ true → d ≡ Less
 less_is Less e = refl
-less_is Equal e = let z : ◌≡◌ {A = ℕ} 0 1 = cc in absurd (omega arith)
-less_is Greater e = let z : ◌≡◌ {A = ℕ} 0 1 = cc in absurd (omega arith)
+less_is Equal e = cc
+less_is Greater e = cc
 
 module _ {n : ℕ} {cmp : Compare} (O : OrderLaws n cmp) where
   pub rank_falls : (a b : List ℕ) → length a ≡ n → small a ≡ true → length b ≡ n → cmp a b ≡ Less → rank cmp n a < rank cmp n b

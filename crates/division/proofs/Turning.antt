@@ -1,5 +1,5 @@
 -- One turn of a division, as the code takes it. Assumes nothing.
-use Rattle.std.proofs.Common.{◌≡◌, ℕ, ◌+◌, ◌<◌, ◌≤◌, Bool, true, cond, ltb, List, [], ◌∷◌, ◌++◌, length, get_or, IfErr, Some, None, Ok, Err, Option, Result, sym, refl, ap, ◌∙◌, ap₂, arith, MatchOption}
+use Rattle.std.proofs.Common.{◌≡◌, ℕ, ◌+◌, ◌<◌, ◌≤◌, true, cond, ltb, List, [], ◌∷◌, ◌++◌, length, get_or, OnErr, Some, None, Ok, Err, Option, Result, sym, refl, ap, ◌∙◌, ap₂, arith, MatchOption}
 use Rattle.std.proofs.lemmas.Bool.{lt-ltb, and_from}
 use Rattle.field.specs.Fields.{Arithmetic, FieldLaws}
 use Rattle.order.specs.Monomials.{small}
@@ -19,8 +19,9 @@ use Rattle.polynomial.proofs.Comparing.{exponents_small}
 use Rattle.polynomial.proofs.Viewing.{view-length, view-append}
 use Rattle.division.specs.Elements.{elements}
 use Rattle.division.specs.Divisors.{First}
+use Rattle.division.specs.Limits.{cancelling}
 use Rattle.division.specs.Turns.{cancelled, turned_by, turned}
-use Rattle.division.proofs.Advance.{turn_ready}
+use Rattle.division.proofs.Bounded.{ok_injective, step-short}
 
 -- what terms show: exponents up to 255
 pub view-small : (ts : List Term) → all_small (view ts) ≡ true
@@ -38,9 +39,8 @@ pub taken : (r : Option Term) (before after : List Term) (x : Term) → 0 < leng
 taken None before after x some first (e, _) = let l = ap length e in absurd (omega arith)
 taken (Some t) before after x some first e = e ∙ ap (λ t. t ∷ after) (sym (first ∙ ap (λ b. get_or b 0 x) e))
 
-pub pushed : (r : Bool) (before after : List Term) (x : Term) → length before < 512 → r ≡ ltb (length before) 512
-    → after ≡ cond r (before ++ (x ∷ [])) before → after ≡ before ++ (x ∷ [])
-pushed r before after x few done e = e ∙ ap (λ r. cond r (before ++ (x ∷ [])) before) (done ∙ lt-ltb (length before) 512 few)
+pub pushed : (before after : List Term) (x : Term) → length before < 512 → after ≡ cond (ltb (length before) 512) (before ++ (x ∷ [])) before → after ≡ before ++ (x ∷ [])
+pushed before after x few e = e ∙ ap (λ b. cond b (before ++ (x ∷ [])) before) (lt-ltb (length before) 512 few)
 
 answered_mapped : {A B : Type 0} (f : A → B) (r : Result (Unit {0}) Limit) (x : A) → answered r (f x) ≡ mapped_ok f (answered r x)
 answered_mapped f (Ok u) x = refl
@@ -49,10 +49,6 @@ answered_mapped f (Err e) x = refl
 module _ (k : Arithmetic) (n : ℕ) (cmp : Compare) (ps : List Raw) where
   abbrev o : Operations ℕ (List ℕ)
   o = ring k n cmp
-
-  pub turned_none : (rest work : List Term) → work ≡ [] → Ok (view rest, view work) ≡ turned o (elements ps) (view rest) (view work)
-  turned_none rest work e =
-      ap (λ (w : List Term). Ok (view rest, view w)) e ∙ ap (λ (w : List Term). turned o (elements ps) (view rest) (view w)) (sym e)
 
   -- x is the leading term
   module _ (rest work tail : List Term) (x : Term) (is : work ≡ x ∷ tail) where
@@ -84,18 +80,11 @@ quotient_sized {k = k} F {n = n} {cmp = cmp} O ps oks t f ok g s found =
     let (among, q) = found_some (ring k n cmp) (elements ps) t.1 g s (found k n cmp) in
     steps.quotient-length F O t f g ok (each_at (λ g. Polynomial k n cmp (whole g)) (elements ps) (each-element (Polynomial k n cmp) ps oks) g among) s q
 
--- there is room after a turn, done or refused
-module _ {k : Arithmetic} (F : FieldLaws k) {n : ℕ} {cmp : Compare} (O : OrderLaws n cmp) (ps : List Raw) (oks : Each (Polynomial k n cmp) ps)
-    (rest work rest' work' : List Term) (ok : Polynomial k n cmp (view work)) (fits : length rest + length work ≤ 512) where
-  pub turn-fits : (r : Result (Unit {0}) Limit) → answered r (view rest', view work') ≡ turned (ring k n cmp) (elements ps) (view rest) (view work)
-      → IfErr r (λ _. (rest' ≡ rest) × (work' ≡ work)) → length rest' + length work' ≤ 512
-  turn-fits (Ok u) e kept =
-      let a = view-length rest in
-      let b = view-length work in
-      let c = view-length rest' in
-      let d = view-length work' in
-      let (next, _) = turn_ready F O (elements ps) (each-element (Polynomial k n cmp) ps oks) (view rest) (view work)
-      (record { held = (ok, view-small work); fits = omega arith }) (view rest', view work') e in
-      let room = next.fits in
-      omega arith
-  turn-fits (Err l) e (same_rest, same_work) = let a = ap length same_rest in let b = ap length same_work in omega arith
+-- there is room after a leading term is cancelled, or refused to be
+pub cancel-fits : (o : Operations ℕ (List ℕ)) (b : ℕ) (t : Written ℕ (List ℕ)) (s : List ℕ) (p : Raw) (work work' : List Term) → b + length work ≤ 512
+    → (r : Result (Unit {0}) Limit) → answered r (view work') ≡ cancelled o b t s p (view work) → OnErr r (work' ≡ work) → b + length work' ≤ 512
+cancel-fits o b t s [] work work' fits (Ok u) e kept =
+    let l = ap length (ok_injective e) in let v = view-length work in let v' = view-length work' in omega arith
+cancel-fits o b t s (x ∷ p) work work' fits (Ok u) e kept =
+    let short = step-short o b (cancelling o t (x, p) s) (x ∷ p) (view work) (view work') (sym e) in let v = view-length work' in omega arith
+cancel-fits o b t s p work work' fits (Err l) e kept = let same = ap length kept in omega arith

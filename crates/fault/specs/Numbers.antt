@@ -1,8 +1,9 @@
 -- The five numbers of a fault: refusal, layer, subject, first, second. Assumes nothing.
---   layers      1 field, 2 table, 3 arithmetic, 4 check
---   subjects    0 none, 1 generator, 2 basis element, 3 cofactor, 4 question, 5 pair
---   first       the number, from 0, that the generator, element or cofactor has or would get; of a pair, its first element
---   second      the term, where one is at fault; of a pair, its second element
+--   layer_number      1 field, 2 table, 3 arithmetic, 4 check
+--   subject_number    0 none, 1 generator, 2 basis element, 3 cofactor, 4 question, 5 pair
+--   first             the number, from 0, that the generator, element or cofactor has or would get; of a pair, its first element
+--   second            the term, where one is at fault; of a pair, its second element
+--   five .. numbers   the five numbers put together; of a flaw of some subject, of a flaw in some place, and of each kind of fault
 use Rattle.std.specs.Prelude.{ℕ}
 use Rattle.field.specs.declared.fault.FieldFault.TheVariants.{UnlistedSize}
 use Rattle.polynomial.specs.declared.flaw.Flaw.{Flaw}
@@ -18,7 +19,25 @@ use Rattle.fault.specs.declared.fault.Work.TheVariants.{Generator as Dividing, C
 use Rattle.fault.specs.declared.fault.ArithmeticFault.{ArithmeticFault}
 use Rattle.fault.specs.declared.fault.Fault.{Fault}
 use Rattle.fault.specs.declared.fault.Fault.TheVariants.{Field, Variables, State, Full, Table, Arithmetic, NotTheSum, GeneratorLeft, PairLeft}
+use Rattle.fault.specs.declared.numbers.Layer.{Layer}
+use Rattle.fault.specs.declared.numbers.Layer.TheVariants.{Field as InField, Table as InTable, Arithmetic as InArithmetic, Check as InCheck}
+use Rattle.fault.specs.declared.numbers.Subject.{Subject}
+use Rattle.fault.specs.declared.numbers.Subject.TheVariants.{None as NoSubject, Generator as OfGenerator, Element as OfElement, Cofactor as OfCofactor, Question as OfQuestion, Pair as OfPair}
 use Rattle.fault.specs.declared.numbers.FaultNumbers.{FaultNumbers}
+
+abbrev pub layer_number : Layer → ℕ
+layer_number InField = 1
+layer_number InTable = 2
+layer_number InArithmetic = 3
+layer_number InCheck = 4
+
+abbrev pub subject_number : Subject → ℕ
+subject_number NoSubject = 0
+subject_number OfGenerator = 1
+subject_number OfElement = 2
+subject_number OfCofactor = 3
+subject_number OfQuestion = 4
+subject_number OfPair = 5
 
 abbrev pub five : ℕ → ℕ → ℕ → ℕ → ℕ → FaultNumbers
 five refusal layer subject first second = record { refusal = refusal; layer = layer; subject = subject; first = first; second = second }

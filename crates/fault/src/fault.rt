@@ -1,12 +1,12 @@
 // Why a call is refused. Each layer carries the fault of the layer below whole.
 ghost use Rattle.std.specs.Prelude.{◌≡◌};
-ghost use Rattle.fault.specs.declared.fault.Fault.TheVariants.{Field as FieldLayer, Table as TableLayer, Arithmetic as ArithmeticLayer};
+ghost use Rattle.fault.specs.declared.fault.Fault.TheVariants.{Field as FieldLayer, Variables, Table as TableLayer, Arithmetic as ArithmeticLayer};
 
 use field::FieldFault;
-use polynomial::{Flaw, Limit};
+use polynomial::{Flaw, Limit, VariableCount};
 
 // Whose table it is, by number from 0.
-#[derive(Clone, Copy)]
+#[derive(Clone, Copy, PartialEq, Eq, Debug)]
 pub enum Place {
     Generator(usize),
     Element(usize),
@@ -15,7 +15,7 @@ pub enum Place {
 }
 
 // What is wrong with the tables handed in.
-#[derive(Clone, Copy)]
+#[derive(Clone, Copy, PartialEq, Eq, Debug)]
 pub enum TableFault {
     // a table by itself
     Flawed(Place, Flaw),
@@ -28,7 +28,7 @@ pub enum TableFault {
 }
 
 // What a limit stopped.
-#[derive(Clone, Copy)]
+#[derive(Clone, Copy, PartialEq, Eq, Debug)]
 pub enum Work {
     // dividing the generator of that number
     Generator(usize),
@@ -40,13 +40,13 @@ pub enum Work {
     Pair(usize, usize),
 }
 
-#[derive(Clone, Copy)]
+#[derive(Clone, Copy, PartialEq, Eq, Debug)]
 pub struct ArithmeticFault {
     pub work: Work,
     pub limit: Limit,
 }
 
-#[derive(Clone, Copy)]
+#[derive(Clone, Copy, PartialEq, Eq, Debug)]
 pub enum Fault {
     // a field that is not made
     Field(FieldFault),
@@ -66,6 +66,7 @@ pub enum Fault {
     PairLeft(usize, usize),
 }
 
+// These three are written out: a derived `From` promises nothing of what it makes.
 impl From<FieldFault> for Fault {
     ghost from_gives = { λ e f. f ≡ FieldLayer e };
 
@@ -87,5 +88,13 @@ impl From<ArithmeticFault> for Fault {
 
     fn from(fault: ArithmeticFault) -> Fault {
         Fault::Arithmetic(fault)
+    }
+}
+
+impl From<VariableCount> for Fault {
+    ghost from_gives = { λ e f. f ≡ Variables };
+
+    fn from(_: VariableCount) -> Fault {
+        Fault::Variables
     }
 }

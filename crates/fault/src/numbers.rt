@@ -1,6 +1,6 @@
 // The five numbers of a fault.
 ghost use Rattle.std.specs.Prelude.{◌≡◌};
-ghost use Rattle.fault.specs.Numbers.{five, flaw_numbers, table_numbers, arithmetic_numbers, numbers};
+ghost use Rattle.fault.specs.Numbers.{five, layer_number, subject_number, place_numbers, table_numbers, arithmetic_numbers, numbers};
 
 use crate::fault::{ArithmeticFault, Fault, Place, TableFault, Work};
 use field::FieldFault;
@@ -15,42 +15,70 @@ pub struct FaultNumbers {
     pub second: usize,
 }
 
-fn five(refusal: u16, layer: u16, subject: u16, first: usize, second: usize) -> FaultNumbers
-    ensures { result ≡ five refusal layer subject first second }
+// Which layer refuses, by its number.
+#[derive(Clone, Copy, PartialEq, Eq, Debug)]
+enum Layer {
+    Field = 1,
+    Table = 2,
+    Arithmetic = 3,
+    Check = 4,
+}
+
+// What is at fault, by its number.
+#[derive(Clone, Copy, PartialEq, Eq, Debug)]
+enum Subject {
+    None = 0,
+    Generator = 1,
+    Element = 2,
+    Cofactor = 3,
+    Question = 4,
+    Pair = 5,
+}
+
+// The refusals stay numbers: each stands once, beside its fault, and an enum would only say the faults again.
+fn five(refusal: u16, layer: Layer, subject: Subject, first: usize, second: usize) -> FaultNumbers
+    ensures { result ≡ five refusal (layer_number layer) (subject_number subject) first second }
 {
     FaultNumbers {
         refusal,
-        layer,
-        subject,
+        layer: layer as u16,
+        subject: subject as u16,
         first,
         second,
     }
 }
 
-fn of_flaw(subject: u16, first: usize, flaw: Flaw) -> FaultNumbers
-    ensures { result ≡ flaw_numbers subject first flaw }
+// A table that is flawed by itself.
+fn of_flaw(place: Place, flaw: Flaw) -> FaultNumbers
+    ensures { result ≡ place_numbers place flaw }
 {
-    match flaw {
-        Flaw::Length => five(4, 2, subject, first, 0),
-        Flaw::Terms => five(5, 2, subject, first, 0),
-        Flaw::Coefficient(term) => five(6, 2, subject, first, term),
-        Flaw::Exponent(term) => five(7, 2, subject, first, term),
-        Flaw::Order(term) => five(8, 2, subject, first, term),
-    }
+    let (subject, first) = match place {
+        Place::Generator(number) => (Subject::Generator, number),
+        Place::Element(number) => (Subject::Element, number),
+        Place::Cofactor(number) => (Subject::Cofactor, number),
+        Place::Question => (Subject::Question, 0),
+    };
+    let (refusal, second) = match flaw {
+        Flaw::Length => (4, 0),
+        Flaw::Terms => (5, 0),
+        Flaw::Coefficient(term) => (6, term),
+        Flaw::Exponent(term) => (7, term),
+        Flaw::Order(term) => (8, term),
+    };
+    five(refusal, Layer::Table, subject, first, second)
 }
 
+// The numbers of each fault by a method: a `From` would want the same clause, and a call of it says less.
 impl TableFault {
     pub fn numbers(&self) -> FaultNumbers
         ensures { result ≡ table_numbers self.now }
     {
+        let layer = Layer::Table;
         match *self {
-            TableFault::Flawed(Place::Generator(number), flaw) => of_flaw(1, number, flaw),
-            TableFault::Flawed(Place::Element(number), flaw) => of_flaw(2, number, flaw),
-            TableFault::Flawed(Place::Cofactor(number), flaw) => of_flaw(3, number, flaw),
-            TableFault::Flawed(Place::Question, flaw) => of_flaw(4, 0, flaw),
-            TableFault::NoTerm(number) => five(9, 2, 2, number, 0),
-            TableFault::CofactorCount => five(10, 2, 0, 0, 0),
-            TableFault::NoRoom => five(16, 2, 4, 0, 0),
+            TableFault::Flawed(place, flaw) => of_flaw(place, flaw),
+            TableFault::NoTerm(number) => five(9, layer, Subject::Element, number, 0),
+            TableFault::CofactorCount => five(10, layer, Subject::None, 0, 0),
+            TableFault::NoRoom => five(16, layer, Subject::Question, 0, 0),
         }
     }
 }
@@ -63,12 +91,13 @@ impl ArithmeticFault {
             Limit::Exponent => 11,
             Limit::Terms => 12,
         };
-        match self.work {
-            Work::Generator(number) => five(refusal, 3, 1, number, 0),
-            Work::CofactorTerm(number, term) => five(refusal, 3, 3, number, term),
-            Work::Question => five(refusal, 3, 4, 0, 0),
-            Work::Pair(first, second) => five(refusal, 3, 5, first, second),
-        }
+        let (subject, first, second) = match self.work {
+            Work::Generator(number) => (Subject::Generator, number, 0),
+            Work::CofactorTerm(number, term) => (Subject::Cofactor, number, term),
+            Work::Question => (Subject::Question, 0, 0),
+            Work::Pair(first, second) => (Subject::Pair, first, second),
+        };
+        five(refusal, Layer::Arithmetic, subject, first, second)
     }
 }
 
@@ -76,16 +105,17 @@ impl Fault {
     pub fn numbers(&self) -> FaultNumbers
         ensures { result ≡ numbers self.now }
     {
-        match self {
-            Fault::Field(FieldFault::UnlistedSize) => five(17, 1, 0, 0, 0),
-            Fault::Variables => five(1, 4, 0, 0, 0),
-            Fault::State => five(2, 4, 0, 0, 0),
-            Fault::Full => five(3, 4, 0, 0, 0),
+        let layer = Layer::Check;
+        match *self {
+            Fault::Field(FieldFault::UnlistedSize) => five(17, Layer::Field, Subject::None, 0, 0),
+            Fault::Variables => five(1, layer, Subject::None, 0, 0),
+            Fault::State => five(2, layer, Subject::None, 0, 0),
+            Fault::Full => five(3, layer, Subject::None, 0, 0),
             Fault::Table(fault) => fault.numbers(),
             Fault::Arithmetic(fault) => fault.numbers(),
-            Fault::NotTheSum(number) => five(13, 4, 2, *number, 0),
-            Fault::GeneratorLeft(number) => five(14, 4, 1, *number, 0),
-            Fault::PairLeft(first, second) => five(15, 4, 5, *first, *second),
+            Fault::NotTheSum(number) => five(13, layer, Subject::Element, number, 0),
+            Fault::GeneratorLeft(number) => five(14, layer, Subject::Generator, number, 0),
+            Fault::PairLeft(first, second) => five(15, layer, Subject::Pair, first, second),
         }
     }
 }

@@ -1,21 +1,11 @@
 -- The residues modulo a listed prime are a field: every law but those of the inverse holds of any modulus.
-use Rattle.std.specs.Prelude.{◌≡◌, ℕ, zero, suc, ◌+◌, ◌-◌, ◌*◌, ◌%◌, ◌<◌, true, refl}
-use Rattle.std.proofs.Common.{sym, ap, ◌∙◌, mod-lt, mod-eq_of_lt, add_comm, add_assoc, zero-add, zero-mul, one-mul, suc-mul, mul_comm, mul_assoc, mul-add, arith}
+use Rattle.std.specs.Prelude.{◌≡◌, ℕ, ◌+◌, ◌-◌, ◌*◌, ◌%◌, ◌<◌, true, refl}
+use Rattle.std.proofs.Common.{sym, ap, ◌∙◌, mod-lt, mod-eq_of_lt, add_comm, add_assoc, zero-add, one-mul, mul_comm, mul_assoc, mul-add, arith}
+use Rattle.std.proofs.lemmas.Nat.{mul-mod_first, mul-mod_second}
 use Rattle.std.proofs.Math.Nat.{mod-add-mod, add-mod-mod, add-mod, mod_self}
 use Rattle.field.specs.Fields.{FieldLaws}
 use Rattle.field.specs.Primes.{prime_sizes, is_prime_size, residues}
 use Rattle.field.specs.Claims.{equal, at_most, below, unless_zero, one, tested}
-
-module _ (q : ℕ) where
-  mul_mod_mod : (a b : ℕ) → a * (b % q) % q ≡ a * b % q
-  mul_mod_mod zero b = simp zero-mul
-  mul_mod_mod (suc a) b =
-      simp suc-mul
-      (add-mod-mod (a * (b % q)) b q ∙ sym (mod-add-mod (a * (b % q)) q b)
-      ∙ ap (λ n. (n + b) % q) (mul_mod_mod a b) ∙ mod-add-mod (a * b) q b)
-
-  mod_mul_mod : (a b : ℕ) → (a % q) * b % q ≡ a * b % q
-  mod_mul_mod a b = ap (λ n. n % q) (mul_comm (a % q) b) ∙ mul_mod_mod b a ∙ ap (λ n. n % q) (mul_comm b a)
 
 module _ (q : ℕ) (l : is_prime_size q ≡ true) where
   pub prime_laws : FieldLaws (residues q)
@@ -40,9 +30,9 @@ module _ (q : ℕ) (l : is_prime_size q ≡ true) where
             add-mod-mod a.0 (q - a.0) q ∙ ap (λ n. n % q) e ∙ mod_self q;
         product_comm = λ a b. ap (λ n. n % q) (mul_comm a.0 b.0);
         product_assoc = λ a b c.
-            mod_mul_mod q (a.0 * b.0) c.0 ∙ ap (λ n. n % q) (mul_assoc a.0 b.0 c.0) ∙ sym (mul_mod_mod q a.0 (b.0 * c.0));
+            mul-mod_first (a.0 * b.0) c.0 q ∙ ap (λ n. n % q) (mul_assoc a.0 b.0 c.0) ∙ sym (mul-mod_second a.0 (b.0 * c.0) q);
         product_one = λ a. ap (λ n. n % q) (one-mul a.0) ∙ mod-eq_of_lt a.1;
         product_sum = λ a b c.
-            mul_mod_mod q a.0 (b.0 + c.0) ∙ ap (λ n. n % q) (mul-add a.0 b.0 c.0) ∙ add-mod (a.0 * b.0) (a.0 * c.0) q;
+            mul-mod_second a.0 (b.0 + c.0) q ∙ ap (λ n. n % q) (mul-add a.0 b.0 c.0) ∙ add-mod (a.0 * b.0) (a.0 * c.0) q;
         product_inverse = law (one (λ k a. unless_zero a (equal (k.product a (k.inverse a)) 1))) refl;
       }

@@ -72,35 +72,14 @@ impl Field for BinaryField {
     }
 
     fn sum(&self, a: u16, b: u16) -> Option<u16> {
-        if a < self.size && b < self.size {
-            Some(a ^ b)
-        } else {
-            None
-        }
+        (a < self.size && b < self.size).then(|| a ^ b)
     }
 
     fn opposite(&self, a: u16) -> Option<u16> {
-        if a < self.size { Some(a) } else { None }
+        (a < self.size).then_some(a)
     }
 
     fn product(&self, a: u16, b: u16) -> Option<u16> {
-        if a < self.size && b < self.size {
-            Some(self.times(a, b))
-        } else {
-            None
-        }
-    }
-
-    // Every code but 0 has an inverse, so the search finds it.
-    fn inverse(&self, a: u16) -> Option<u16> {
-        if a == 0 || self.size <= a {
-            return None;
-        }
-        for b in 1..self.size {
-            if self.times(a, b) == 1 {
-                return Some(b);
-            }
-        }
-        None
+        (a < self.size && b < self.size).then(|| self.times(a, b))
     }
 }

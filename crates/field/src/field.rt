@@ -18,8 +18,12 @@ pub trait Field {
     fn product(&self, a: u16, b: u16) -> Option<u16>
         ensures { result ≡ binary (arithmetic self.now).size (arithmetic self.now).product a b };
 
+    // The one code that multiplies to 1: there is none for 0, nor for what is no code.
     fn inverse(&self, a: u16) -> Option<u16>
-        ensures { result ≡ inverted (arithmetic self.now).size (arithmetic self.now).inverse a };
+        ensures { result ≡ inverted (arithmetic self.now).size (arithmetic self.now).inverse a }
+    {
+        (1..self.size()).find(|b| self.product(a, *b) == Some(1))
+    }
 
     ghost lawful: { (f : Self) → FieldLaws (arithmetic f) };
 }

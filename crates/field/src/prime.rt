@@ -35,39 +35,14 @@ impl Field for PrimeField {
     }
 
     fn sum(&self, a: u16, b: u16) -> Option<u16> {
-        if a < self.modulus && b < self.modulus {
-            Some((a + b) % self.modulus)
-        } else {
-            None
-        }
+        (a < self.modulus && b < self.modulus).then(|| (a + b) % self.modulus)
     }
 
     fn opposite(&self, a: u16) -> Option<u16> {
-        if a < self.modulus {
-            Some((self.modulus - a) % self.modulus)
-        } else {
-            None
-        }
+        (a < self.modulus).then(|| (self.modulus - a) % self.modulus)
     }
 
     fn product(&self, a: u16, b: u16) -> Option<u16> {
-        if a < self.modulus && b < self.modulus {
-            Some(a * b % self.modulus)
-        } else {
-            None
-        }
-    }
-
-    // Every code but 0 has an inverse, so the search finds it.
-    fn inverse(&self, a: u16) -> Option<u16> {
-        if a == 0 || self.modulus <= a {
-            return None;
-        }
-        for b in 1..self.modulus {
-            if a * b % self.modulus == 1 {
-                return Some(b);
-            }
-        }
-        None
+        (a < self.modulus && b < self.modulus).then(|| a * b % self.modulus)
     }
 }

@@ -16,9 +16,5 @@ fn degree(monomial: &[u16]) -> u32
     requires { length monomial.now ≤ 24 }
     ensures { result ≡ degree monomial.now }
 {
-    let mut sum = 0;
-    for exponent in monomial {
-        sum += u32::from(*exponent);
-    }
-    sum
+    monomial.iter().map(|exponent| u32::from(*exponent)).sum()
 }

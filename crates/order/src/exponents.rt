@@ -1,11 +1,11 @@
-// Which monomials the orders compare.
+// Which monomials the orders compare, and what the limits on them are.
 ghost use Rattle.std.specs.Prelude.{◌≡◌};
 ghost use Rattle.order.specs.Monomials.{small};
 ghost use Rattle.order.specs.Orders.{comparable};
 
-const MOST_VARIABLES: usize = 24;
+pub const MOST_VARIABLES: usize = 24;
 
-const MOST_EXPONENT: u16 = 255;
+pub const MOST_EXPONENT: u16 = 255;
 
 pub(crate) fn are_comparable(a: &[u16], b: &[u16]) -> bool
     ensures { result ≡ comparable a.now b.now }
@@ -13,13 +13,9 @@ pub(crate) fn are_comparable(a: &[u16], b: &[u16]) -> bool
     a.len() == b.len() && a.len() <= MOST_VARIABLES && is_small(a) && is_small(b)
 }
 
-fn is_small(monomial: &[u16]) -> bool
+// Whether no exponent passes 255.
+pub fn is_small(monomial: &[u16]) -> bool
     ensures { result ≡ small monomial.now }
 {
-    for exponent in monomial {
-        if *exponent > MOST_EXPONENT {
-            return false;
-        }
-    }
-    true
+    monomial.iter().all(|exponent| *exponent <= MOST_EXPONENT)
 }

@@ -17,9 +17,6 @@ impl MonomialOrder for Graded {
     ghost lawful = { λ o n. graded-laws n };
 
     fn compare(&self, a: &[u16], b: &[u16]) -> Option<Ordering> {
-        if !are_comparable(a, b) {
-            return None;
-        }
-        Some(compare_degrees(a, b).then(compare_lex(a, b)))
+        are_comparable(a, b).then(|| compare_degrees(a, b).then(compare_lex(a, b)))
     }
 }

@@ -16,15 +16,12 @@ impl MonomialOrder for Lex {
     ghost lawful = { λ o n. lex-laws n };
 
     fn compare(&self, a: &[u16], b: &[u16]) -> Option<Ordering> {
-        if !are_comparable(a, b) {
-            return None;
-        }
-        Some(compare_lex(a, b))
+        are_comparable(a, b).then(|| compare_lex(a, b))
     }
 }
 
 pub(crate) fn compare_lex(a: &[u16], b: &[u16]) -> Ordering
     ensures { result ≡ lex a.now b.now }
 {
-    a.cmp(&b)
+    a.cmp(b)
 }

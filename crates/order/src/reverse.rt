@@ -17,10 +17,7 @@ impl MonomialOrder for Reverse {
     ghost lawful = { λ o n. reverse-laws n };
 
     fn compare(&self, a: &[u16], b: &[u16]) -> Option<Ordering> {
-        if !are_comparable(a, b) {
-            return None;
-        }
-        Some(compare_degrees(a, b).then(compare_backward(a, b)))
+        are_comparable(a, b).then(|| compare_degrees(a, b).then(compare_backward(a, b)))
     }
 }
 

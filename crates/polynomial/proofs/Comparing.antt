@@ -1,7 +1,6 @@
--- Monomials in equally many variables are comparable; codes have sums and products. Assumes nothing.
-use Rattle.std.proofs.Common.{◌≡◌, ℕ, ◌<◌, true, ◌&&◌, eqb, ltb, leb, length, Some, None, arith, length-take-le}
-use Rattle.std.proofs.lemmas.Bool.{lt-ltb, le-leb, eq-eqb, cond-true, and_from}
-use Rattle.field.specs.Fields.{binary}
+-- Monomials in equally many variables are comparable. Assumes nothing.
+use Rattle.std.proofs.Common.{◌≡◌, true, ◌&&◌, eqb, leb, length, Some, None, arith, length-take-le}
+use Rattle.std.proofs.lemmas.Bool.{le-leb, eq-eqb, cond-true, and_from}
 use Rattle.order.specs.Monomials.{small}
 use Rattle.order.specs.Orders.{Compare, comparable, compared}
 use Rattle.polynomial.specs.Views.{exponents_of}
@@ -29,6 +28,3 @@ comparable_at a b e =
 
 pub compared_at : (cmp : Compare) (a b : Monomial) → a.variables ≡ b.variables → compared cmp (exponents_of a) (exponents_of b) ≡ Some (cmp (exponents_of a) (exponents_of b))
 compared_at cmp a b e = cond-true (comparable (exponents_of a) (exponents_of b)) _ None (comparable_at a b e)
-
-pub binary_at : (q : ℕ) (f : ℕ → ℕ → ℕ) (a b : ℕ) → a < q → b < q → binary q f a b ≡ Some (f a b)
-binary_at q f a b h k = cond-true (ltb a q && ltb b q) (Some (f a b)) None (and_from (ltb a q) (ltb b q) (lt-ltb a q h) (lt-ltb b q k))

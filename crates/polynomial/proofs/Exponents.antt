@@ -1,13 +1,9 @@
 -- Lists of exponents, a place at a time. Assumes nothing.
-use Rattle.std.proofs.Common.{◌≡◌, ℕ, zero, suc, ◌+◌, ◌-◌, ◌<◌, ◌≤◌, true, false, leb, List, [], ◌∷◌, length, get_or, take, set, refl, ap, ◌∙◌, add-one, arith}
-use Rattle.std.proofs.lemmas.Bool.{le-leb, lt-leb, leb-true, and_parts, and_from, and_left, and_right}
+use Rattle.std.proofs.Common.{◌≡◌, ℕ, zero, suc, ◌+◌, ◌-◌, ◌<◌, ◌≤◌, true, ◌&&◌, leb, List, [], ◌∷◌, length, get_or, take, drop, replicate, sym, refl, ap, ◌∙◌, arith}
+use Rattle.std.proofs.lemmas.Bool.{le-leb, leb-true, and_parts, and_from}
+use Rattle.std.proofs.lemmas.List.{ext_get_or, length-drop, get_or-drop, length-replicate, get_or-replicate, length-take-le, get_or-take}
+use Rattle.std.proofs.lemmas.List.Recursion.{and_from_places}
 use Rattle.order.specs.Monomials.{multiply, small}
-
-pub multiply-take : (i : ℕ) (xs ys : List ℕ) → multiply (take i xs) (take i ys) ≡ take i (multiply xs ys)
-multiply-take zero xs ys = refl
-multiply-take (suc i) [] ys = refl
-multiply-take (suc i) (x ∷ xs) [] = refl
-multiply-take (suc i) (x ∷ xs) (y ∷ ys) = ap (λ t. (x + y) ∷ t) (multiply-take i xs ys)
 
 -- fronts of two lengths meet at the shorter
 pub multiply_fronts : (i j k : ℕ) (xs ys : List ℕ) → k ≡ i - (i - j) → multiply (take i xs) (take j ys) ≡ take k (multiply xs ys)
@@ -42,34 +38,28 @@ small-take zero xs s = refl
 small-take (suc i) [] s = refl
 small-take (suc i) (x ∷ xs) s = let (a, b) = and_parts (leb x 255) (small xs) s in and_from (leb x 255) (small (take i xs)) a (small-take i xs b)
 
-pub small-set : (i v : ℕ) (xs : List ℕ) → v ≤ 255 → small xs ≡ true → small (set xs i v) ≡ true
-small-set i v [] h s = refl
-small-set zero v (x ∷ xs) h s = and_from (leb v 255) (small xs) (le-leb v 255 h) (and_parts (leb x 255) (small xs) s).1
-small-set (suc i) v (x ∷ xs) h s = let (a, b) = and_parts (leb x 255) (small xs) s in and_from (leb x 255) (small (set xs i v)) a (small-set i v xs h b)
+-- places that are all low, and 0 behind a front
 
-pub small-more : (i : ℕ) (xs : List ℕ) → i < length xs → get_or xs i 0 ≤ 255 → small (take i xs) ≡ true → small (take (i + 1) xs) ≡ true
-small-more i xs h k s = rw (add-one i) (at i xs h k s)
-  where
-    at : (i : ℕ) (xs : List ℕ) → i < length xs → get_or xs i 0 ≤ 255 → small (take i xs) ≡ true → small (take (suc i) xs) ≡ true
-    at i [] h k s = refl
-    at zero (x ∷ xs) h k s = and_from (leb x 255) true (le-leb x 255 k) refl
-    at (suc i) (x ∷ xs) h k s = let (a, b) = and_parts (leb x 255) (small (take i xs)) s in and_from (leb x 255) (small (take (suc i) xs)) a (at i xs (omega arith) k b)
+small_from : (xs : List ℕ) → ((k : ℕ) → k < length xs → get_or xs k 0 ≤ 255) → small xs ≡ true
+small_from xs low = and_from_places small (λ e. leb e 255) refl (λ _ _. refl) xs 0 (λ k h. le-leb (get_or xs k 0) 255 (low k h))
 
-pub small_fails : (n i : ℕ) (xs : List ℕ) → i < n → i < length xs → 255 < get_or xs i 0 → small (take n xs) ≡ false
-small_fails n i [] l h k = absurd (omega arith)
-small_fails zero i (x ∷ xs) l h k = absurd (omega arith)
-small_fails (suc n) zero (x ∷ xs) l h k = and_left (leb x 255) (small (take n xs)) (lt-leb x 255 k)
-small_fails (suc n) (suc i) (x ∷ xs) l h k = and_right (leb x 255) (small (take n xs)) (small_fails n i xs (omega arith) (omega arith) k)
+small-zeros : (m : ℕ) → small (replicate m 0) ≡ true
+small-zeros zero = refl
+small-zeros (suc m) = small-zeros m
 
--- a front that one more written place makes longer
-pub take-set-more : (i v : ℕ) (es xs : List ℕ) → i < length es → i < length xs → v ≡ get_or xs i 0 → take i es ≡ take i xs → take (i + 1) (set es i v) ≡ take (i + 1) xs
-take-set-more i v es xs h k e t = rw (add-one i) (at i es xs h k e t)
-  where
-    at : (i : ℕ) (es xs : List ℕ) → i < length es → i < length xs → v ≡ get_or xs i 0 → take i es ≡ take i xs → take (suc i) (set es i v) ≡ take (suc i) xs
-    at i [] xs h k e t = absurd (omega arith)
-    at i (y ∷ es) [] h k e t = absurd (omega arith)
-    at zero (y ∷ es) (x ∷ xs) h k e t = ap (λ z. z ∷ []) e
-    at (suc i) (y ∷ es) (x ∷ xs) h k e t =
-        let a : y ≡ x = cc in
-        let b : take i es ≡ take i xs = cc in
-        ap (λ z. z ∷ take (suc i) (set es i v)) a ∙ ap (λ z. x ∷ z) (at i es xs (omega arith) (omega arith) e b)
+pub small-front : (n m : ℕ) (xs : List ℕ) → drop n xs ≡ replicate m 0 → small (take n xs) ≡ small xs
+small-front zero m xs h = sym (ap small h ∙ small-zeros m)
+small-front (suc n) m [] h = refl
+small-front (suc n) m (x ∷ xs) h = ap (λ b. leb x 255 && b) (small-front n m xs h)
+
+pub low_front : (n m : ℕ) (xs : List ℕ) → n ≤ length xs → drop n xs ≡ replicate m 0 → ((k : ℕ) → k < n → get_or xs k 0 ≤ 255) → small xs ≡ true
+low_front n m xs l zeros low = sym (small-front n m xs zeros) ∙ small_from (take n xs) (λ k h. let d = length-take-le n xs l in rw (get_or-take n xs k 0 (omega arith)) (low k (omega arith)))
+
+pub zeros_from : (n l : ℕ) (xs : List ℕ) → length xs ≡ l → ((k : ℕ) → n ≤ k → k < l → get_or xs k 0 ≡ 0) → drop n xs ≡ replicate (l - n) 0
+zeros_from n l xs long zero_at = ext_get_or 0 (drop n xs) (replicate (l - n) 0) (let d = length-drop n xs in let r = length-replicate {A = ℕ} (l - n) 0 in omega arith)
+    (λ k h. let d = length-drop n xs in get_or-drop n xs k 0 ∙ zero_at (n + k) (omega arith) (omega arith) ∙ sym (get_or-replicate (l - n) k 0 0 (omega arith)))
+
+-- a front that is the same place by place
+pub same_front : (n : ℕ) (xs ys : List ℕ) → n ≤ length xs → n ≤ length ys → ((k : ℕ) → k < n → get_or xs k 0 ≡ get_or ys k 0) → take n xs ≡ take n ys
+same_front n xs ys h l at = ext_get_or 0 (take n xs) (take n ys) (length-take-le n xs h ∙ sym (length-take-le n ys l))
+    (λ k i. let d = length-take-le n xs h in get_or-take n xs k 0 (omega arith) ∙ at k (omega arith) ∙ sym (get_or-take n ys k 0 (omega arith)))

@@ -1,3 +1,4 @@
+pub mod Arrays
 pub mod Exponents
 pub mod Quotients
 pub mod Comparing

@@ -8,7 +8,6 @@ use Rattle.ideal.proofs.Carried as carried
 use Rattle.polynomial.specs.Limits.{united}
 use Rattle.polynomial.specs.Views.{exponents_of, term_of, view}
 use Rattle.polynomial.specs.declared.term.Term.{Term}
-use Rattle.polynomial.proofs.Comparing.{exponents_length}
 use Rattle.polynomial.proofs.Leading.{sum_less, sum-greater, sum-equal}
 
 -- a list that is not empty begins with its first term
@@ -38,12 +37,6 @@ module _ {k : Arithmetic} (F : FieldLaws k) {n : ℕ} {cmp : Compare} (O : Order
 
     y_ok : Polynomial k n cmp (term_of y ∷ view (drop 1 q))
     y_ok = subst (Polynomial k n cmp) (first q y m e) right
-
-    pub codes : (x.coefficient < k.size) × (y.coefficient < k.size)
-    codes = (x_ok.0.0.0, y_ok.0.0.0)
-
-    pub alike : x.monomial.variables ≡ y.monomial.variables
-    alike = sym (exponents_length x.monomial) ∙ x_ok.0.0.1 ∙ sym y_ok.0.0.1 ∙ exponents_length y.monomial
 
     both : sum o (view p) (view q) ≡ sum o (term_of x ∷ view (drop 1 p)) (term_of y ∷ view (drop 1 q))
     both = ap₂ (sum o) (first p x l d) (first q y m e)

@@ -1,26 +1,21 @@
 -- What an answer says of the steps that led to it. Assumes nothing.
-use Rattle.std.proofs.Common.{◌≡◌, ℕ, Bool, true, false, ◌⊎◌, IfOk, Ok, Err, Result, sym, refl, ap, ◌∙◌, subst, inl, inr, arith}
+use Rattle.std.proofs.Common.{◌≡◌, Bool, true, false, ◌⊎◌, IfOk, Ok, Err, Result, sym, refl, ap, ◌∙◌, subst, inl, inr}
 use Rattle.polynomial.specs.Results.{◌>>=◌, ◌>>◌, check, because, answered}
 
 -- a test that was passed
 pub checked : {E A : Type 0} (b : Bool) (e : E) (r : Result A E) (x : A) → (check b e >> r) ≡ Ok x → (b ≡ true) × (r ≡ Ok x)
 checked true e r x h = (refl, h)
-checked false e r x h = let z : ◌≡◌ {A = ℕ} 0 1 = cc in absurd (omega arith)
+checked false e r x h = cc
 
 -- an answer that was gone on with
 pub bound : {E A B : Type 0} (r : Result A E) (f : A → Result B E) (y : B) → (r >>= f) ≡ Ok y → (x : A) × (r ≡ Ok x) × (f x ≡ Ok y)
 bound (Ok x) f y h = (x, refl, h)
-bound (Err e) f y h = let z : ◌≡◌ {A = ℕ} 0 1 = cc in absurd (omega arith)
-
--- of a refusal nothing is left to say
-pub on_refusal : {E A : Type 0} (r : Result A E) (P : A → Type 0) (e : E) → r ≡ Err e → IfOk r P
-on_refusal (Ok a) P e h = let z : ◌≡◌ {A = ℕ} 0 1 = cc in absurd (omega arith)
-on_refusal (Err x) P e h = tt
+bound (Err e) f y h = cc
 
 -- an answer is not changed by what its refusal would have been carried in
 pub because_ok : {E F A : Type 0} (f : E → F) (r : Result A E) (x : A) → Ok x ≡ because f r → r ≡ Ok x
 because_ok f (Ok a) x h = let z : a ≡ x = cc in ap Ok z
-because_ok f (Err e) x h = let z : ◌≡◌ {A = ℕ} 0 1 = cc in absurd (omega arith)
+because_ok f (Err e) x h = cc
 
 -- what is said of an answer, where there is one
 pub on_answer : {E A : Type 0} (P : A → Type 0) (r : Result A E) (x : A) → r ≡ Ok x → IfOk r P → P x
@@ -42,7 +37,7 @@ checked_err true d r e h = inr (refl, h)
 checked_err false d r e h = inl (refl, (let z : d ≡ e = cc in z))
 
 pub because_err : {E F A : Type 0} (f : E → F) (r : Result A E) (e : F) → because f r ≡ Err e → (x : E) × (r ≡ Err x) × (f x ≡ e)
-because_err f (Ok a) e h = let z : ◌≡◌ {A = ℕ} 0 1 = cc in absurd (omega arith)
+because_err f (Ok a) e h = cc
 because_err f (Err x) e h = (x, refl, (let z : f x ≡ e = cc in z))
 
 -- to be said only of an answer
@@ -51,5 +46,5 @@ made_if P (Ok x) h = h x refl
 made_if P (Err e) h = tt
 
 pub not_made : {E A : Type 0} (P : Type 0) (r : Result A E) (e : E) → r ≡ Err e → IfOk r (λ _. P)
-not_made P (Ok x) e h = let z : ◌≡◌ {A = ℕ} 0 1 = cc in absurd (omega arith)
+not_made P (Ok x) e h = cc
 not_made P (Err x) e h = tt

@@ -14,8 +14,8 @@ use Rattle.polynomial.proofs.Outcomes.{checked, bound}
 
 less_is : (d : Ordering) → is_less d ≡ true → d ≡ Less
 less_is Less e = refl
-less_is Equal e = let z : ◌≡◌ {A = ℕ} 0 1 = cc in absurd (omega arith)
-less_is Greater e = let z : ◌≡◌ {A = ℕ} 0 1 = cc in absurd (omega arith)
+less_is Equal e = cc
+less_is Greater e = cc
 
 module _ (k : Arithmetic) (n : ℕ) (cmp : Compare) (O : OrderLaws n cmp) where
   abbrev Good : Term ℕ (List ℕ) → Type 0

@@ -9,7 +9,7 @@ use Rattle.ideal.specs.Rings.{Raw, Polynomial}
 use Rattle.ideal.specs.Algebra.{NonzeroTerm}
 use Rattle.ideal.proofs.Carried as carried
 use Rattle.polynomial.specs.Limits.{all_small, tight, bounded, step}
-use Rattle.polynomial.specs.Results.{◌>>=◌, ◌>>◌, check}
+use Rattle.polynomial.specs.Results.{◌>>◌, check}
 use Rattle.polynomial.specs.Views.{term_of, view}
 use Rattle.polynomial.specs.declared.flaw.Limit.{Limit}
 use Rattle.polynomial.specs.declared.flaw.Limit.TheVariants.{Exponent, Terms}
@@ -37,11 +37,6 @@ module _ (o : Operations ℕ (List ℕ)) (s t : Written ℕ (List ℕ)) (p out :
       let x : Written ℕ (List ℕ) = (o.times s.0 t.0, o.multiply s.1 t.1) in
       ap (λ b. behind out (check (b && all_small (multiple o s p)) Exponent >> Ok (x ∷ multiple o s p))) e ∙ behind_one out x (all_small (multiple o s p)) (multiple o s p)
 
-  pub multiple_stops : small (o.multiply s.1 t.1) ≡ false → behind out (tight (multiple o s (t ∷ p))) ≡ Err Exponent
-  multiple_stops e =
-      let x : Written ℕ (List ℕ) = (o.times s.0 t.0, o.multiply s.1 t.1) in
-      ap (λ b. behind out (check (b && all_small (multiple o s p)) Exponent >> Ok (x ∷ multiple o s p))) e
-
 -- a sum that is too long, and one that is not
 pub too_long : (room : ℕ) (xs : Raw) (y : Written ℕ (List ℕ)) (ys : Raw) → room ≤ length xs → Err Terms ≡ bounded room (xs ++ (y ∷ ys))
 too_long room xs y ys h =
@@ -63,10 +58,6 @@ tight_is p v e = let (b, is) = checked (all_small p) Exponent (Ok p) v (sym e) i
 
 pub bounded_is : (room : ℕ) (p v : Raw) → Ok v ≡ bounded room p → v ≡ p
 bounded_is room p v e = let (b, is) = checked (leb (length p) room) Terms (Ok p) v (sym e) in cc
-
--- a step in its two parts
-pub step_is : (o : Operations ℕ (List ℕ)) (b room : ℕ) (t : Written ℕ (List ℕ)) (p f m : Raw) (x : Result Raw Limit) → room ≡ 512 - b → Ok m ≡ tight (multiple o t p) → x ≡ bounded room (sum o m f) → x ≡ step o b t p f
-step_is o b room t p f m x r e d = d ∙ ap (λ z. bounded z (sum o m f)) r ∙ ap (λ (x : Result Raw Limit). x >>= (λ m. bounded (512 - b) (sum o m f))) e
 
 -- a step that is not refused is the sum
 pub step_sum : (o : Operations ℕ (List ℕ)) (b : ℕ) (t : Written ℕ (List ℕ)) (p f s : Raw) → step o b t p f ≡ Ok s → s ≡ sum o (multiple o t p) f

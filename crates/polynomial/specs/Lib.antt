@@ -1,3 +1,4 @@
+pub mod Lawful
 pub mod Results
 pub mod Views
 pub mod Rings
@@ -6,3 +7,5 @@ pub mod Tables
 pub mod Cuts
 pub mod Kept
 pub mod Equality
+pub mod Propositions
+pub mod Places

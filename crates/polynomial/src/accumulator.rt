@@ -1,14 +1,16 @@
 // A sum that grows by one multiple after another, in memory reserved once.
+// A clause says that the sum is a polynomial of the ring: a sum outlives the ring's number of variables, so its type cannot.
 ghost use Rattle.std.specs.Prelude.{◌≡◌, ◌≤◌, [], ◌∷◌, length, IfOk, if◌then◌else◌, MatchOption, MatchResult, nat_le};
 ghost use Rattle.ideal.specs.Polynomials.{sum, multiple};
 ghost use Rattle.polynomial.specs.Limits.{step};
-ghost use Rattle.polynomial.specs.Results.{answered};
-ghost use Rattle.polynomial.specs.Rings.{over, Within, Factor};
+ghost use Rattle.polynomial.specs.Results.{answered, check};
+ghost use Rattle.polynomial.specs.declared.flaw.Limit.TheVariants.{Terms};
+ghost use Rattle.polynomial.specs.Rings.{over, Within};
 ghost use Rattle.polynomial.specs.Views.{term_of, view};
 
 use crate::flaw::Limit;
+use crate::multiple::Multiple;
 use crate::polynomial::Polynomial;
-use crate::ring::Ring;
 use crate::term::Term;
 use field::Field;
 use order::MonomialOrder;
@@ -49,10 +51,10 @@ impl Accumulator {
         self.sum.clear();
     }
 
-    // Begins again from this polynomial; false, with nothing changed, where it has more than 512 terms.
-    pub fn load(&mut self, terms: &[Term]) -> bool
-        ensures done { result ≡ nat_le (length terms.now) 512 }
-        ensures sum { self.new.sum.terms.items ≡ (if result then terms.now else self.old.sum.terms.items) }
+    // Begins again from this polynomial, unless it has more than 512 terms: then nothing changes.
+    pub fn load(&mut self, terms: &[Term]) -> Result<(), Limit>
+        ensures done { result ≡ check (nat_le (length terms.now) 512) Terms }
+        ensures sum { self.new.sum.terms.items ≡ (if nat_le (length terms.now) 512 then terms.now else self.old.sum.terms.items) }
     {
         self.sum.load(terms)
     }
@@ -64,30 +66,18 @@ impl Accumulator {
         self.sum.take_leading()
     }
 
-    // Adds factor · p in one step; `beside` terms are kept elsewhere and count among the 512 too. A refused step changes nothing.
+    // Adds a multiple in one step; `beside` terms are kept elsewhere and count among the 512 too. A refused step changes nothing.
     pub fn add<F: Field, O: MonomialOrder>(
         &mut self,
-        ring: &Ring<F, O>,
         beside: usize,
-        factor: &Term,
-        p: &[Term],
+        product: &Multiple<F, O>,
     ) -> Result<(), Limit>
-        requires factor { Factor F.arithmetic ring.now (term_of factor.now) }
-        requires within { Within F.arithmetic O.comparison ring.now (view p.now) }
-        requires few { length p.now ≤ 512 }
-        requires sum { Within F.arithmetic O.comparison ring.now (view self.old.sum.terms.items) }
-        ensures value { answered result (view self.new.sum.terms.items) ≡ step (over F.arithmetic O.comparison ring.now) beside (term_of factor.now) (view p.now) (view self.old.sum.terms.items) }
-        ensures sum { MatchResult result (λ _. view self.new.sum.terms.items ≡ sum (over F.arithmetic O.comparison ring.now) (multiple (over F.arithmetic O.comparison ring.now) (term_of factor.now) (view p.now)) (view self.old.sum.terms.items)) (λ _. self.new.sum.terms.items ≡ self.old.sum.terms.items) }
-        ensures within { Within F.arithmetic O.comparison ring.now (view self.new.sum.terms.items) }
+        requires { Within product.now.ring.now (view self.old.sum.terms.items) }
+        ensures value { answered result (view self.new.sum.terms.items) ≡ step (over product.now.ring.now) beside (term_of product.now.factor) (view product.now.polynomial.now) (view self.old.sum.terms.items) }
+        ensures sum { MatchResult result (λ _. view self.new.sum.terms.items ≡ sum (over product.now.ring.now) (multiple (over product.now.ring.now) (term_of product.now.factor) (view product.now.polynomial.now)) (view self.old.sum.terms.items)) (λ _. self.new.sum.terms.items ≡ self.old.sum.terms.items) }
+        ensures within { Within product.now.ring.now (view self.new.sum.terms.items) }
     {
-        ring.add_multiple(
-            beside,
-            factor,
-            p,
-            self.sum.terms(),
-            &mut self.product,
-            &mut self.spare,
-        )?;
+        product.add_to(beside, self.sum.terms(), &mut self.product, &mut self.spare)?;
         std::mem::swap(&mut self.sum, &mut self.spare);
         Ok(())
     }

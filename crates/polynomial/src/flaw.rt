@@ -1,7 +1,7 @@
-// What can be wrong with a table, and which limit a step can meet.
+// What can be wrong with a table, which limit a step can meet, and what is not kept.
 
 // How many terms a table may have.
-#[derive(Clone, Copy)]
+#[derive(Clone, Copy, PartialEq, Eq, Debug)]
 pub enum TableSize {
     // 32 terms: what is kept
     Short,
@@ -10,7 +10,7 @@ pub enum TableSize {
 }
 
 // What is wrong with one table; the last three carry the number of the term.
-#[derive(Clone, Copy)]
+#[derive(Clone, Copy, PartialEq, Eq, Debug)]
 pub enum Flaw {
     // its length is no multiple of the numbers in a term
     Length,
@@ -24,10 +24,23 @@ pub enum Flaw {
     Order(usize),
 }
 
-#[derive(Clone, Copy)]
+#[derive(Clone, Copy, PartialEq, Eq, Debug)]
 pub enum Limit {
     // an exponent of a product passes 255
     Exponent,
     // a sum has more than 512 terms
     Terms,
 }
+
+// Why a list keeps no polynomial more.
+#[derive(Clone, Copy, PartialEq, Eq, Debug)]
+pub enum Unkept {
+    // 32 polynomials are kept already
+    ListFull,
+    // it has more than 32 terms
+    TooLong,
+}
+
+// A number of variables that is not from 1 to 24.
+#[derive(Clone, Copy, PartialEq, Eq, Debug)]
+pub struct VariableCount;

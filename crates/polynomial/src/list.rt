@@ -10,6 +10,7 @@ pub const MOST_POLYNOMIALS: usize = 32;
 
 pub const MOST_KEPT_TERMS: usize = 32;
 
+// The terms of all, and beside them how many each has, and no Vec of Vecs: the memory is fixed, one allocation of each at `new`.
 #[derive(Drop)]
 pub struct PolynomialList {
     terms: Vec<Term>,

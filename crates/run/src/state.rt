@@ -10,7 +10,7 @@ pub enum State {
     Passed,
 }
 
-#[derive(Clone, Copy)]
+#[derive(Clone, Copy, PartialEq, Eq, Debug)]
 pub enum CallKind {
     Open,
     Rule,

@@ -1,13 +1,16 @@
 // How polynomials are kept and looked up.
-ghost use Rattle.std.specs.Prelude.{◌≡◌, ◌<◌, ◌≤◌, ◌&&◌, [], ◌∷◌, ◌++◌, length, IfOk, if◌then◌else◌, MatchOption, nat_le, nat_lt, slice_index_or};
+ghost use Rattle.std.specs.Prelude.{◌≡◌, ◌<◌, ◌≤◌, ◌&&◌, [], ◌∷◌, ◌++◌, length, IfOk, if◌then◌else◌, MatchOption, nat_le, nat_lt, slice_index_or, take};
+ghost use Rattle.polynomial.specs.Cuts.{total};
 ghost use Rattle.polynomial.specs.Kept.{polynomials};
+ghost use Rattle.polynomial.specs.Places.{has_place};
 ghost use Rattle.polynomial.specs.Views.{view};
 
+use crate::flaw::Unkept;
 use crate::list::{MOST_KEPT_TERMS, MOST_POLYNOMIALS, PolynomialList};
 use crate::term::Term;
 use std::alloc::{AllocError, Global};
 
-const MOST_TERMS_IN_ALL: usize = 1024;
+const MOST_TERMS_IN_ALL: usize = MOST_POLYNOMIALS * MOST_KEPT_TERMS;
 
 impl PolynomialList {
     // No polynomials yet, with all the memory they will ever take.
@@ -52,16 +55,27 @@ impl PolynomialList {
         self.counts.push_reserved(p.len());
     }
 
-    // Keeps one polynomial more; false, with nothing changed, where there are 32 already or it has more than 32 terms.
-    pub fn push(&mut self, p: &[Term]) -> bool
-        ensures done { result ≡ (nat_lt (length (polynomials self.old)) 32 && nat_le (length p.now) 32) }
-        ensures kept { polynomials self.new ≡ (if result then polynomials self.old ++ (view p.now ∷ []) else polynomials self.old) }
+    // Keeps one polynomial more, unless there are 32 already or it has more than 32 terms: then nothing changes.
+    pub fn push(&mut self, p: &[Term]) -> Result<(), Unkept>
+        ensures done { result ≡ has_place (length (polynomials self.old)) (length p.now) }
+        ensures kept { polynomials self.new ≡ (if nat_lt (length (polynomials self.old)) 32 && nat_le (length p.now) 32 then polynomials self.old ++ (view p.now ∷ []) else polynomials self.old) }
     {
-        if self.len() >= MOST_POLYNOMIALS || p.len() > MOST_KEPT_TERMS {
-            return false;
+        if self.len() >= MOST_POLYNOMIALS {
+            return Err(Unkept::ListFull);
+        }
+        if p.len() > MOST_KEPT_TERMS {
+            return Err(Unkept::TooLong);
         }
         self.append(p);
-        true
+        Ok(())
+    }
+
+    // How many terms stand before those of polynomial number i.
+    fn start(&self, i: usize) -> usize
+        requires { i < length (polynomials self.now) }
+        ensures { result ≡ total (take i self.now.counts.items) }
+    {
+        self.counts().iter().take(i).sum()
     }
 
     // Polynomial number i, which begins where those before it end.
@@ -70,12 +84,8 @@ impl PolynomialList {
         ensures value { view result.now ≡ slice_index_or (polynomials self.now) i [] }
         ensures short { length result.now ≤ 32 }
     {
-        let counts = self.counts();
-        let mut start = 0;
-        for j in 0..i {
-            start += counts[j];
-        }
-        &self.terms.as_slice()[start..start + counts[i]]
+        let start = self.start(i);
+        &self.terms.as_slice()[start..start + self.counts()[i]]
     }
 
     // Polynomial number i, if there are so many.

@@ -1,9 +1,11 @@
 // What is done with monomials.
-ghost use Rattle.std.specs.Prelude.{◌≡◌, min, true, false, ◌&&◌, length, take, MatchOption, nat_le};
+ghost use Rattle.std.specs.Prelude.{◌≡◌, ℕ, ◌-◌, ◌<◌, ◌≤◌, min, true, false, ◌&&◌, length, drop, replicate, MatchOption, nat_le, slice_index};
 ghost use Rattle.order.specs.Monomials.{multiply, small};
 ghost use Rattle.polynomial.specs.Views.{exponents_of};
 
-use crate::monomial::{MOST_EXPONENT, MOST_VARIABLES, Monomial};
+use crate::monomial::Monomial;
+use order::{MOST_VARIABLES, is_small};
+use std::array;
 
 impl Monomial {
     // The monomial with these exponents, unless they are too many or one is too high.
@@ -11,17 +13,11 @@ impl Monomial {
         ensures { MatchOption result ((nat_le (length row.now) 24 && small row.now) ≡ false) (λ m. ((nat_le (length row.now) 24 && small row.now) ≡ true) × (exponents_of m ≡ row.now) × (m.variables ≡ length row.now)) }
     {
         let variables = row.len();
-        if variables > MOST_VARIABLES {
+        if variables > MOST_VARIABLES || !is_small(row) {
             return None;
         }
-        let mut exponents = [0u16; 24];
-        for i in 0..variables {
-            let exponent = row[i];
-            if exponent > MOST_EXPONENT {
-                return None;
-            }
-            exponents[i] = exponent;
-        }
+        let mut exponents = [0; 24];
+        exponents[..variables].copy_from_slice(row);
         Some(Monomial {
             exponents,
             variables,
@@ -32,22 +28,22 @@ impl Monomial {
         ensures value { result.now ≡ exponents_of self.now }
         ensures len { length result.now ≡ self.now.variables }
     {
-        &self.exponents[0..self.variables]
+        &self.exponents[..self.variables]
     }
 
-    // The sums of the exponents, place by place, unless one passes 255.
-    fn add_exponents(&self, other: &Monomial) -> Option<[u16; 24]>
-        ensures { MatchOption result (small (multiply (exponents_of self.now) (exponents_of other.now)) ≡ false) (λ sums. (small (multiply (exponents_of self.now) (exponents_of other.now)) ≡ true) × (length sums ≡ 24) × (small sums ≡ true) × (take (min self.now.variables other.now.variables) sums ≡ multiply (exponents_of self.now) (exponents_of other.now))) }
+    // Place by place what `f` makes of both exponents, as far as both monomials reach, and 0 behind.
+    pub(crate) fn combine<F: Fn(u16, u16) -> u16>(&self, other: &Monomial, f: F) -> [u16; 24]
+        requires pre { (a : _) (b : _) → a ≤ 255 → b ≤ 255 → F.pre f a b }
+        ensures len { length result ≡ 24 }
+        ensures both { (k : ℕ) → k < min self.now.variables other.now.variables → F.post f (slice_index self.now.exponents k) (slice_index other.now.exponents k) (slice_index result k) }
+        ensures zeros { drop (min self.now.variables other.now.variables) result ≡ replicate (24 - min self.now.variables other.now.variables) 0 }
     {
-        let mut exponents = [0u16; 24];
-        for i in 0..self.variables.min(other.variables) {
-            let exponent = self.exponents[i] + other.exponents[i];
-            if exponent > MOST_EXPONENT {
-                return None;
-            }
-            exponents[i] = exponent;
-        }
-        Some(exponents)
+        let reach = self.variables.min(other.variables);
+        array::from_fn(|i| if i < reach {
+            f(self.exponents[i], other.exponents[i])
+        } else {
+            0
+        })
     }
 
     // The product, unless an exponent passes 255.
@@ -55,7 +51,10 @@ impl Monomial {
         ensures { MatchOption result (small (multiply (exponents_of self.now) (exponents_of other.now)) ≡ false) (λ p. (small (multiply (exponents_of self.now) (exponents_of other.now)) ≡ true) × (exponents_of p ≡ multiply (exponents_of self.now) (exponents_of other.now))) }
     {
         let variables = self.variables.min(other.variables);
-        let exponents = self.add_exponents(other)?;
+        let exponents = self.combine(other, |mine, others| mine + others);
+        if !is_small(&exponents) {
+            return None;
+        }
         Some(Monomial {
             exponents,
             variables,

@@ -1,6 +1,9 @@
 // How a polynomial is made, looked at and changed.
 ghost use Rattle.std.specs.Prelude.{◌≡◌, [], ◌∷◌, ◌++◌, length, IfOk, if◌then◌else◌, MatchOption, nat_le, nat_lt};
+ghost use Rattle.polynomial.specs.Results.{check};
+ghost use Rattle.polynomial.specs.declared.flaw.Limit.TheVariants.{Terms};
 
+use crate::flaw::Limit;
 use crate::polynomial::{MOST_TERMS, Polynomial};
 use crate::term::Term;
 use std::alloc::{AllocError, Global};
@@ -27,29 +30,29 @@ impl Polynomial {
         self.terms.clear();
     }
 
-    // The polynomial with these terms; false, with nothing changed, where there are more than 512.
-    pub fn load(&mut self, terms: &[Term]) -> bool
-        ensures done { result ≡ nat_le (length terms.now) 512 }
-        ensures terms { self.new.terms.items ≡ (if result then terms.now else self.old.terms.items) }
+    // The polynomial with these terms, unless there are more than 512: then nothing changes.
+    pub fn load(&mut self, terms: &[Term]) -> Result<(), Limit>
+        ensures done { result ≡ check (nat_le (length terms.now) 512) Terms }
+        ensures terms { self.new.terms.items ≡ (if nat_le (length terms.now) 512 then terms.now else self.old.terms.items) }
     {
         if terms.len() > MOST_TERMS {
-            return false;
+            return Err(Limit::Terms);
         }
         self.clear();
         self.terms.extend_from_slice(terms).unwrap();
-        true
+        Ok(())
     }
 
-    // One term more, behind the others; false, with nothing changed, where there are 512 already.
-    pub fn push(&mut self, term: Term) -> bool
-        ensures done { result ≡ nat_lt (length self.old.terms.items) 512 }
-        ensures terms { self.new.terms.items ≡ (if result then self.old.terms.items ++ (term ∷ []) else self.old.terms.items) }
+    // One term more, behind the others, unless there are 512 already: then nothing changes.
+    pub fn push(&mut self, term: Term) -> Result<(), Limit>
+        ensures done { result ≡ check (nat_lt (length self.old.terms.items) 512) Terms }
+        ensures terms { self.new.terms.items ≡ (if nat_lt (length self.old.terms.items) 512 then self.old.terms.items ++ (term ∷ []) else self.old.terms.items) }
     {
         if self.terms.len() >= MOST_TERMS {
-            return false;
+            return Err(Limit::Terms);
         }
         self.terms.push_reserved(term);
-        true
+        Ok(())
     }
 
     // Takes the leading term away, if there is one.

@@ -1,4 +1,5 @@
 // The field and the order on what belongs to the ring: there they always answer.
+ghost use Rattle.polynomial.specs.Rings.{arithmetic_of, comparison_of};
 ghost use Rattle.std.specs.Prelude.{◌≡◌, ◌<◌};
 ghost use Rattle.polynomial.specs.Views.{exponents_of};
 
@@ -10,24 +11,24 @@ use std::cmp::Ordering;
 
 impl<F: Field, O: MonomialOrder> Ring<F, O> {
     pub(crate) fn plus(&self, a: u16, b: u16) -> u16
-        requires a_code { a < (F.arithmetic self.now.field).size }
-        requires b_code { b < (F.arithmetic self.now.field).size }
-        ensures { result ≡ (F.arithmetic self.now.field).sum a b }
+        requires a_code { a < (arithmetic_of self.now).size }
+        requires b_code { b < (arithmetic_of self.now).size }
+        ensures { result ≡ (arithmetic_of self.now).sum a b }
     {
         self.field.sum(a, b).unwrap()
     }
 
     pub(crate) fn times(&self, a: u16, b: u16) -> u16
-        requires a_code { a < (F.arithmetic self.now.field).size }
-        requires b_code { b < (F.arithmetic self.now.field).size }
-        ensures { result ≡ (F.arithmetic self.now.field).product a b }
+        requires a_code { a < (arithmetic_of self.now).size }
+        requires b_code { b < (arithmetic_of self.now).size }
+        ensures { result ≡ (arithmetic_of self.now).product a b }
     {
         self.field.product(a, b).unwrap()
     }
 
     pub(crate) fn compare(&self, a: &Monomial, b: &Monomial) -> Ordering
         requires { a.now.variables ≡ b.now.variables }
-        ensures { result ≡ O.comparison self.now.order (exponents_of a.now) (exponents_of b.now) }
+        ensures { result ≡ comparison_of self.now (exponents_of a.now) (exponents_of b.now) }
     {
         self.order.compare(a.exponents(), b.exponents()).unwrap()
     }

@@ -2,7 +2,7 @@
 ghost use Rattle.std.specs.Prelude.{◌≡◌, ◌+◌, ◌≤◌, length, IfSome, IfOk, OnOk};
 ghost use Rattle.std.specs.Option.{option_map};
 ghost use Rattle.polynomial.specs.Results.{answered, mapped_ok};
-ghost use Rattle.polynomial.specs.Rings.{Within};
+ghost use Rattle.polynomial.specs.Rings.{arithmetic_of, comparison_of, in_ring, Within};
 ghost use Rattle.polynomial.specs.Tables.{most, falls, term, read};
 ghost use Rattle.polynomial.specs.Views.{exponents_of, term_of, view};
 
@@ -13,7 +13,6 @@ use crate::ring::Ring;
 use crate::term::Term;
 use field::Field;
 use order::MonomialOrder;
-use std::cmp::Ordering;
 
 impl TableSize {
     pub fn most(self) -> usize
@@ -30,16 +29,9 @@ impl<F: Field, O: MonomialOrder> Ring<F, O> {
     // Whether a monomial is lower than the one before, if there is one.
     fn falls(&self, last: Option<Monomial>, monomial: &Monomial) -> bool
         requires alike { IfSome last (λ m. m.variables ≡ monomial.now.variables) }
-        ensures { result ≡ falls (O.comparison self.now.order) (option_map exponents_of last) (exponents_of monomial.now) }
+        ensures { result ≡ falls (comparison_of self.now) (option_map exponents_of last) (exponents_of monomial.now) }
     {
-        let Some(last) = last else {
-            return true;
-        };
-        match self.compare(monomial, &last) {
-            Ordering::Less => true,
-            Ordering::Equal => false,
-            Ordering::Greater => false,
-        }
+        last.is_none_or(|last| self.compare(monomial, &last).is_lt())
     }
 
     // Term `number` of a table from its own numbers, behind the monomial of the term before.
@@ -51,7 +43,7 @@ impl<F: Field, O: MonomialOrder> Ring<F, O> {
     ) -> Result<Term, Flaw>
         requires whole { length numbers.now ≡ self.now.variables + 1 }
         requires alike { IfSome last (λ m. m.variables ≡ self.now.variables) }
-        ensures value { mapped_ok term_of result ≡ term (F.arithmetic self.now.field) (O.comparison self.now.order) number (option_map exponents_of last) numbers.now }
+        ensures value { mapped_ok term_of result ≡ term (arithmetic_of self.now) (comparison_of self.now) number (option_map exponents_of last) numbers.now }
         ensures variables { IfOk result (λ t. t.monomial.variables ≡ self.now.variables) }
     {
         let [coefficient, exponents @ ..] = numbers else {
@@ -61,9 +53,7 @@ impl<F: Field, O: MonomialOrder> Ring<F, O> {
         if coefficient == 0 || coefficient >= self.field.size() {
             return Err(Flaw::Coefficient(number));
         }
-        let Some(monomial) = Monomial::from_exponents(exponents) else {
-            return Err(Flaw::Exponent(number));
-        };
+        let monomial = Monomial::from_exponents(exponents).ok_or(Flaw::Exponent(number))?;
         if !self.falls(last, &monomial) {
             return Err(Flaw::Order(number));
         }
@@ -75,8 +65,8 @@ impl<F: Field, O: MonomialOrder> Ring<F, O> {
 
     // Reads a whole table.
     pub fn read(&self, size: TableSize, table: &[u16], out: &mut Polynomial) -> Result<(), Flaw>
-        ensures value { answered result (view out.new.terms.items) ≡ read (F.arithmetic self.now.field) self.now.variables (O.comparison self.now.order) (most size) table.now }
-        ensures within { OnOk result (Within F.arithmetic O.comparison self.now (view out.new.terms.items)) }
+        ensures value { answered result (view out.new.terms.items) ≡ in_ring read self.now (most size) table.now }
+        ensures within { OnOk result (Within self.now (view out.new.terms.items)) }
         ensures few { OnOk result (length out.new.terms.items ≤ most size) }
     {
         out.terms.clear();
@@ -84,18 +74,14 @@ impl<F: Field, O: MonomialOrder> Ring<F, O> {
         if table.len() % stride != 0 {
             return Err(Flaw::Length);
         }
-        let count = table.len() / stride;
-        if count > size.most() {
+        if table.len() / stride > size.most() {
             return Err(Flaw::Terms);
         }
-        let mut rest = table;
         let mut last: Option<Monomial> = None;
-        for number in 0..count {
-            let (numbers, later) = rest.split_at(stride);
+        for (number, numbers) in table.chunks_exact(stride).enumerate() {
             let term = self.read_term(number, last, numbers)?;
             last = Some(term.monomial);
             out.terms.push_reserved(term);
-            rest = later;
         }
         Ok(())
     }

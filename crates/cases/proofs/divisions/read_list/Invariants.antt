@@ -4,4 +4,4 @@ use Rattle.polynomial.specs.Rings.{Within}
 use Rattle.cases.proofs.divisions.read_list.Given as goal
 
 abbrev pub invariant-loop-text : goal.invariant-loop-text
-invariant-loop-text g l = Each (Within g.F.Field.arithmetic g.O.MonomialOrder.comparison l.ring) (polynomials l.list)
+invariant-loop-text g l = Each (Within l.ring) (polynomials l.list)

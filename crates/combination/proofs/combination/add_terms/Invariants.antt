@@ -7,7 +7,7 @@ use Rattle.combination.proofs.combination.add_terms.Given as goal
 
 abbrev pub invariant-loop-term : goal.invariant-loop-term
 invariant-loop-term g l =
-    let o = over g.F.Field.arithmetic g.O.MonomialOrder.comparison l.ring in
-    Within g.F.Field.arithmetic g.O.MonomialOrder.comparison l.ring (view (vec_items l.sum.sum.terms))
+    let o = over l.ring in
+    Within l.ring (view (vec_items l.sum.sum.terms))
     × (add_terms o l.number 0 (view l.cofactor) (view l.generator) (view (vec_items l.initial.sum.sum.terms))
     ≡ add_terms o l.number l.term (view (drop l.term l.cofactor)) (view l.generator) (view (vec_items l.sum.sum.terms)))

@@ -1,14 +1,8 @@
 use Rattle.polynomial.proofs.Steps.{factor_at}
 use Rattle.demo.proofs.walk.add_and_tell.Goals as goal
 
-pub add-requires : goal.add-requires
-add-requires g c =
-    let k = g.F.Field.arithmetic c.args.ring.now.field in
-    let n = c.args.ring.now.variables in
-    let cmp = g.O.MonomialOrder.comparison c.args.ring.now.order in
-    record {
-      factor = factor_at {k = k} (g.met.F.Field.lawful c.args.ring.now.field) {n = n} {cmp = cmp} (g.met.O.MonomialOrder.lawful c.args.ring.now.order n) c.loop-i.i c.args.cofactor.now c.index-cofactor-i.result c.loop-i-test.true c.index-cofactor-i.is c.requires.cofactor;
-      within = c.requires.generator;
-      few = c.requires.few;
-      sum = c.loop-i.invariant;
-    }
+pub invariant_of-product-clause-factored : goal.invariant_of-product-clause-factored
+invariant_of-product-clause-factored g c =
+    let r = c.args.ring.now in
+    factor_at {k = g.F.Field.arithmetic r.field} (g.met.F.Field.lawful r.field) {n = r.variables} {cmp = g.O.MonomialOrder.comparison r.order} (g.met.O.MonomialOrder.lawful r.order r.variables)
+    c.loop-term.term-index c.args.cofactor.now c.term-item.result c.loop-term-test.true c.term-item.is c.requires.cofactor

@@ -3,5 +3,4 @@ use Rattle.division.proofs.coefficient.opposite_inverse.Goals as goal
 
 pub returns : goal.returns
 returns g c =
-    let k = g.F.Field.arithmetic c.args.field.now in
-    opposite_inverse_is {k = k} (g.met.F.Field.lawful c.args.field.now) c.args.b c.in_ok-inverse.inverse c.in_ok-inverse.ensures c.opposite.result c.opposite.ensures
+    opposite_inverse_is (g.met.F.Field.lawful c.args.field.now) c.args.b c.in_ok-inverse.inverse c.in_ok-inverse.ensures c.opposite.result c.opposite.ensures

@@ -4,11 +4,10 @@ use Rattle.division.proofs.coefficient.opposite_quotient.Goals as goal
 
 pub returns-in_err-quotient : goal.returns-in_err-quotient
 returns-in_err-quotient g c =
-    let k = g.F.Field.arithmetic c.args.field.now in
     c.from_residual-in_err-quotient.ensures
-    ∙ no_quotient {k = k} (g.met.F.Field.lawful c.args.field.now) c.args.b c.in_ok-inverse.inverse c.in_ok-inverse.ensures c.args.a c.in_err-quotient.ensures
+    ∙ no_quotient (g.met.F.Field.lawful c.args.field.now) c.args.b c.in_ok-inverse.inverse c.in_ok-inverse.ensures c.args.a c.in_err-quotient.ensures
 
 pub returns : goal.returns
 returns g c =
-    let k = g.F.Field.arithmetic c.args.field.now in
-    quotient_is {k = k} (g.met.F.Field.lawful c.args.field.now) c.args.b c.in_ok-inverse.inverse c.in_ok-inverse.ensures c.args.a c.in_ok-quotient.quotient c.opposite.result c.in_ok-quotient.ensures c.opposite.ensures
+    quotient_is (g.met.F.Field.lawful c.args.field.now) c.args.b c.in_ok-inverse.inverse c.in_ok-inverse.ensures
+    c.args.a c.in_ok-quotient.quotient c.opposite.result c.in_ok-quotient.ensures c.opposite.ensures

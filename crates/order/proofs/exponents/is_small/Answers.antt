@@ -1,24 +1,15 @@
--- The next exponent decides, or else what is left after it.
-use Rattle.std.proofs.Common.{◌≡◌, ℕ, ◌+◌, ◌<◌, Bool, true, false, ◌&&◌, leb, List, length, get_or, drop, sym, ap, ◌∙◌}
-use Rattle.std.proofs.lemmas.List.{at_drop_more, at_drop_all}
-use Rattle.std.proofs.lemmas.Bool.{le-leb, lt-leb}
+-- The call tests every exponent, as `small` does.
+use Rattle.std.proofs.Common.{ℕ, Bool, ◌&&◌, leb, refl, ◌∙◌, rules, tests}
+use Rattle.std.proofs.lemmas.Iterator.{YieldsList-from_slice}
+use Rattle.std.proofs.lemmas.Iterator.Search.{all_from_yields_List}
+use Rattle.std.proofs.lemmas.List.Recursion.{same_from_clauses}
+use Rattle.std.specs.List.{list_all}
 use Rattle.order.specs.Monomials.{small}
 use Rattle.order.proofs.exponents.is_small.Goals as goal
 
-next : (m : List ℕ) (i : ℕ) (t : Bool) → i < length m → leb (get_or m i 0) 255 ≡ t → small (drop i m) ≡ (t && small (drop (i + 1) m))
-next m i t h e = at_drop_more small m i 0 h ∙ ap (λ b. b && small (drop (i + 1) m)) e
-
-pub returns-then-exponent-gt-MOST_EXPONENT : goal.returns-then-exponent-gt-MOST_EXPONENT
-returns-then-exponent-gt-MOST_EXPONENT c =
-    let m = c.args.monomial.now in
-    let i = c.loop-exponent.exponent-index in
-    sym (c.loop-exponent.invariant ∙ next m i false c.loop-exponent-test.true (lt-leb (get_or m i 0) 255 c.if-exponent-gt-MOST_EXPONENT.true))
-
-pub loop-exponent-preserved : goal.loop-exponent-preserved
-loop-exponent-preserved c =
-    let m = c.args.monomial.now in
-    let i = c.loop-exponent.exponent-index in
-    c.loop-exponent.invariant ∙ next m i true c.loop-exponent-test.true (le-leb (get_or m i 0) 255 c.if-exponent-gt-MOST_EXPONENT.false)
-
 pub returns : goal.returns
-returns c = sym (c.loop-exponent.invariant ∙ at_drop_all small c.args.monomial.now c.loop-exponent.exponent-index c.loop-exponent-test.false)
+returns c =
+    let m = c.args.monomial.now in
+    let test : ℕ → Bool = λ e. leb e 255 in
+    all_from_yields_List test _ _ _ c.all.ensures.ran (YieldsList-from_slice m cc) (λ x b q k. search (rules, tests))
+    ∙ same_from_clauses (list_all test) small (λ e rest. test e && rest) refl (λ _ _. refl) (λ _ _. refl) m

@@ -4,8 +4,5 @@ use Rattle.polynomial.specs.Views.{view}
 use Rattle.polynomial.proofs.Cutting.{cut-length}
 use Rattle.polynomial.proofs.list.PolynomialList.counts.Goals as goal
 
-pub returns : goal.returns
-returns c =
-    let l = c.args.self.now in
-    let value = c.as_slice.ensures.value in
-    record { value = value; len = ap length value ∙ sym (cut-length (vec_items l.counts) (view (vec_items l.terms))) }
+pub returns-clause-len : goal.returns-clause-len
+returns-clause-len c = let l = c.args.self.now in ap length c.as_slice.ensures.value ∙ sym (cut-length (vec_items l.counts) (view (vec_items l.terms)))

@@ -1,35 +1,30 @@
-use Rattle.std.proofs.Common.{◌≡◌, leb, length, get_or, take, sym, refl, ap, ◌∙◌, arith, length-set}
-use Rattle.std.proofs.lemmas.List.{take_all}
-use Rattle.std.proofs.lemmas.Bool.{le-leb, and_from, and_right}
+-- The row, and 0 behind it.
+use Rattle.std.proofs.Common.{◌≡◌, ℕ, ◌-◌, ◌≤◌, List, ◌++◌, length, drop, replicate, sym, ap, ◌∙◌, arith, length-append}
+use Rattle.std.proofs.lemmas.List.{length-drop, take_at, drop_at, drop-replicate}
 use Rattle.order.specs.Monomials.{small}
-use Rattle.polynomial.proofs.Exponents.{small-set, small-more, small_fails, take-set-more}
+use Rattle.polynomial.proofs.Exponents.{small-front}
 use Rattle.polynomial.proofs.monomial.Monomial.from_exponents.Goals as goal
 
-pub returns-then-exponent-gt-MOST_EXPONENT : goal.returns-then-exponent-gt-MOST_EXPONENT
-returns-then-exponent-gt-MOST_EXPONENT c =
-    let row = c.args.row.now in
-    let all : take (length row) row ≡ row = take_all (length row) row (omega arith) in
-    and_right (leb (length row) 24) (small row) (ap small (sym all) ∙ small_fails (length row) c.loop-i.i row (omega arith) (omega arith) (omega arith))
+-- a front copied over 24 zeros
+module _ (row front : List ℕ) (copied : front ≡ row) where
+  abbrev filled : List ℕ
+  filled = front ++ drop (length row) (replicate 24 0)
 
-pub loop-i-preserved : goal.loop-i-preserved
-loop-i-preserved c =
-    let row = c.args.row.now in
-    let i = c.loop-i.i in
-    let v = get_or row i 0 in
-    let (a, b, d, e) = c.loop-i.invariant in (
-      length-set c.loop-i.exponents i v ∙ a,
-      small-set i v c.loop-i.exponents (omega arith) b,
-      take-set-more i v c.loop-i.exponents row (omega arith) (omega arith) refl d,
-      small-more i row (omega arith) (omega arith) e,
-    )
+  filled_long : length row ≤ 24 → length filled ≡ 24
+  filled_long h =
+      let zeros : length (drop (length row) (replicate {A = ℕ} 24 0)) ≡ 24 - length row = length-drop (length row) (replicate 24 0) in
+      let e = ap length copied in
+      omega (arith, length-append front (drop (length row) (replicate 24 0)))
 
-pub returns : goal.returns
-returns c =
+  filled_zeros : drop (length row) filled ≡ replicate (24 - length row) 0
+  filled_zeros = drop_at front _ (length row) (ap length copied) ∙ drop-replicate (length row) 24 0
+
+  filled-small : small filled ≡ small row
+  filled-small = sym (small-front (length row) (24 - length row) filled filled_zeros) ∙ ap small (take_at front _ (length row) (ap length copied) ∙ copied)
+
+pub invariant_of-result : goal.invariant_of-result
+invariant_of-result c =
     let row = c.args.row.now in
-    let i : c.loop-i.i ≡ length row = omega arith in
-    let all : take c.loop-i.i row ≡ row = take_all c.loop-i.i row (omega arith) in
-    let (a, b, d, e) = c.loop-i.invariant in (
-      and_from (leb (length row) 24) (small row) (le-leb (length row) 24 (omega arith)) (ap small (sym all) ∙ e),
-      ap (λ k. take k c.loop-i.exponents) (sym i) ∙ d ∙ all,
-      refl,
-    )
+    let front = c.copy_from_slice.new.self in
+    let copied = c.copy_from_slice.ensures.after in
+    record { few = omega arith; full = filled_long row front copied (omega arith); low = filled-small row front copied ∙ sym c.if-not-is_small.ensures; zeros = filled_zeros row front copied }

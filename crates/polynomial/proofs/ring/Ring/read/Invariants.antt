@@ -1,4 +1,7 @@
-use Rattle.std.proofs.Common.{◌≡◌, ◌-◌, ◌*◌, ◌≤◌, length, IfSome, None, vec_items, vec_len}
+-- The terms that are read, and behind them those of the rest of the table.
+use Rattle.std.proofs.Common.{◌≡◌, ◌-◌, ◌*◌, ◌/◌, ◌≤◌, length, IfSome, None, vec_items, vec_len}
+use Rattle.std.specs.Iterator.Adapters.{enumerate_source, enumerate_count}
+use Rattle.std.specs.Slice.Iter.{chunks_exact_rest, chunks_exact_size}
 use Rattle.std.specs.Option.{option_map}
 use Rattle.polynomial.specs.Tables.{terms}
 use Rattle.polynomial.specs.Views.{exponents_of, view}
@@ -10,6 +13,16 @@ invariant-loop-number g l =
     let k = g.F.Field.arithmetic l.self.field in
     let cmp = g.O.MonomialOrder.comparison l.self.order in
     let n = l.self.variables in
-    (vec_len l.out.terms ≡ l.number) × (l.count ≤ 512) × (length l.rest ≡ (l.count - l.number) * l.stride)
-    × IfSome l.last (λ m. m.variables ≡ n)
-    × (terms k n cmp l.count 0 None l.table ≡ prefixed (view (vec_items l.out.terms)) (terms k n cmp (l.count - l.number) l.number (option_map exponents_of l.last) l.rest))
+    let count = length l.table / l.stride in
+    let number = enumerate_count l.number-iterator in
+    let chunks = enumerate_source l.number-iterator in
+    let rest = chunks_exact_rest chunks in
+    record {
+      finite : (goal.iterator-loop-number g).is_finite l.number-iterator;
+      size : chunks_exact_size chunks ≡ l.stride;
+      within : number ≤ count;
+      whole : length rest ≡ (count - number) * l.stride;
+      written : vec_len l.out.terms ≡ number;
+      alike : IfSome l.last (λ m. m.variables ≡ n);
+      so_far : terms k n cmp count 0 None l.table ≡ prefixed (view (vec_items l.out.terms)) (terms k n cmp (count - number) number (option_map exponents_of l.last) rest);
+    }

@@ -1,14 +1,19 @@
-use Rattle.std.proofs.Common.{◌≡◌, ◌+◌, ◌-◌, ◌≤◌, ◌++◌, length, drop, vec_items, vec_len}
+-- What is written, and behind it the sum of what is left.
+use Rattle.std.proofs.Common.{◌≡◌, ◌+◌, ◌≤◌, ◌++◌, length, vec_items, vec_len}
 use Rattle.ideal.specs.Polynomials.{sum}
-use Rattle.polynomial.specs.Rings.{over}
+use Rattle.polynomial.specs.Rings.{over, Within}
 use Rattle.polynomial.specs.Views.{view}
 use Rattle.polynomial.proofs.ring.Ring.sum.Given as goal
 
-abbrev pub invariant-loop-i : goal.invariant-loop-i
-invariant-loop-i g l =
-    let o = over g.F.Field.arithmetic g.O.MonomialOrder.comparison l.self in
-    (l.i ≤ length l.p) × (l.j ≤ length l.q) × (vec_len l.out.terms ≤ l.room)
-    × (sum o (view l.p) (view l.q) ≡ view (vec_items l.out.terms) ++ sum o (view (drop l.i l.p)) (view (drop l.j l.q)))
+abbrev pub invariant-loop-next : goal.invariant-loop-next
+invariant-loop-next g l =
+    let o = over l.self in
+    record {
+      p_within : Within l.self (view l.p);
+      q_within : Within l.self (view l.q);
+      few : vec_len l.out.terms ≤ l.room;
+      so_far : sum o (view l.fn.p) (view l.fn.q) ≡ view (vec_items l.out.terms) ++ sum o (view l.p) (view l.q);
+    }
 
-abbrev pub decreases-loop-i : goal.decreases-loop-i
-decreases-loop-i g l = (length l.p + length l.q) - (l.i + l.j)
+abbrev pub decreases-loop-next : goal.decreases-loop-next
+decreases-loop-next g l = length l.p + length l.q

@@ -1,8 +1,0 @@
--- The call is the definition's, so it keeps the laws of runs.
-use Rattle.run.specs.Models.{Rule}
-use Rattle.calls.specs.Shown.{said}
-use Rattle.calls.proofs.Promises.{promised}
-use Rattle.calls.proofs.checker.Checker.rule.Goals as goal
-
-pub returns : goal.returns
-returns g c = promised g.F.Field.arithmetic g.O.MonomialOrder.comparison g.met.F.Field.lawful g.met.O.MonomialOrder.lawful c.args.self.now (Rule c.args.table.now) (said c.add_generator.result) c.add_generator.new.self c.requires c.add_generator.ensures
