@@ -6,7 +6,7 @@ use Rattle.field.specs.declared.field.Field.{Ghosts as FieldGhosts}
 use Rattle.order.specs.Orders.{Compare, OrderLaws}
 use Rattle.order.specs.declared.order.MonomialOrder.{Ghosts as OrderGhosts}
 use Rattle.ideal.specs.Lists.{Each}
-use Rattle.ideal.specs.Rings.{Raw, Polynomial}
+use Rattle.ideal.specs.Rings.{Polynomial}
 use Rattle.polynomial.specs.Kept.{polynomials}
 use Rattle.polynomial.specs.Propositions.{Each-prop, Polynomial-prop}
 use Rattle.polynomial.specs.Rings.{Within}
@@ -18,20 +18,16 @@ use Rattle.run.specs.Calls.{hear}
 use Rattle.run.specs.Hears.{Goes}
 use Rattle.run.specs.Models.{Model, Call, Answer}
 use Rattle.run.specs.Runs.{model_of}
-use Rattle.run.specs.Standing.{Kept, Standing}
-use Rattle.run.proofs.Holds.{standing}
+use Rattle.run.specs.Standing.{Standing}
+use Rattle.run.proofs.Holds.{kept-polynomials, standing}
 use Rattle.run.proofs.RunLaws.{call_law_lem}
 use Rattle.calls.specs.Held.{held, Reached}
-use Rattle.calls.specs.Shown.{arithmetic_of, comparison_of, shown, Promise}
+use Rattle.calls.specs.Shown.{shown, Promise}
 use Rattle.calls.specs.declared.held.Checker.{Checker}
 
 -- some run leads to m
 abbrev pub Led : Arithmetic → Compare → Model → Type 0
 Led k cmp m = (past : List Call) × (model_of k cmp past ≡ m)
-
-kept-polynomials : (k : Arithmetic) (cmp : Compare) (m : Model) (ps : List Raw) → Each (Kept k cmp m) ps → Each (Polynomial k m.variables cmp) ps
-kept-polynomials k cmp m [] e = tt
-kept-polynomials k cmp m (p ∷ ps) (x, e) = (x.0.0, kept-polynomials k cmp m ps e)
 
 module _ {k : Arithmetic} (F : FieldLaws k) {cmp : Compare} (O : (n : ℕ) → OrderLaws n cmp) where
   -- what is reached stands
@@ -40,7 +36,7 @@ module _ {k : Arithmetic} (F : FieldLaws k) {cmp : Compare} (O : (n : ℕ) → O
 
   basis_polynomials : (m : Model) → ∥ Led k cmp m ∥₁ → Each (Polynomial k m.variables cmp) m.basis
   basis_polynomials m led = ∥∥₁_elim led (Each-prop _ (Polynomial-prop k m.variables cmp) m.basis)
-      (λ l. kept-polynomials k cmp m m.basis (stands m l).elements_kept)
+      (λ l. kept-polynomials F O m m.basis (stands m l).elements_kept)
 
   goes : (m m' : Model) (c : Call) (a : Answer) → (a, m') ≡ hear k cmp m c → (past : List Call) → model_of k cmp past ≡ m → Goes k cmp past c a m'
   goes m m' c a heard past is =
@@ -64,10 +60,14 @@ module _ {F O : Type 0} {f : FieldGhosts F} {o : OrderGhosts O} (lawful : (x : F
       subst₂ (λ x y. ∥ Led (f.arithmetic x) (o.comparison y) (held check' basis' state') ∥₁) (sym field) (sym order)
       (led_on (lawful check.ring.field) (ordered check.ring.order) (held check basis state) (held check' basis' state') c a heard led)
 
-  pub promised : (before after : Checker F O f o) (c : Call) (a : Answer) → (a, shown after) ≡ hear (arithmetic_of before) (comparison_of before) (shown before) c
+  pub promised : (before after : Checker F O f o) (c : Call) (a : Answer) → (a, shown after) ≡ hear (f.arithmetic before.check.ring.field) (o.comparison before.check.ring.order) (shown before) c
       → after.check.ring.field ≡ before.check.ring.field → after.check.ring.order ≡ before.check.ring.order → Promise before c a after
   promised before after c a heard field order = record {
     heard = heard;
+    stands = λ s.
+        subst₂ (λ x y. Standing (f.arithmetic x) (o.comparison y) (shown after)) (sym field) (sym order)
+        (subst (λ (x : Answer × Model). Standing (f.arithmetic before.check.ring.field) (o.comparison before.check.ring.order) x.1) (sym heard)
+        (call_law_lem (lawful before.check.ring.field) (ordered before.check.ring.order) (shown before) c s).stands);
     runs = goes (lawful before.check.ring.field) (ordered before.check.ring.order) (shown before) (shown after) c a heard;
     field = field;
     order = order;

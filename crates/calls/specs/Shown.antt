@@ -1,19 +1,19 @@
 -- What a checker of the code shows, and what its calls promise. Assumes nothing.
---   arithmetic_of, comparison_of    how its field computes, and how its order compares
 --   shown                   the model that it shows
 --   said, told              the answer of a call, and of a question with the result table after it
 --   Same                    two checkers hold the same
---   Promise before c a after    the answer and what is held after are those of the definition, whatever was held; every run that leads to
---                           what was held goes on by this call, and keeps the laws as a whole; field and order stay
--- That what is held is reached by a run, and so stands, is part of the type.
+--   Stands                  what it holds stands: the bounds, that the basis elements follow, and that they are complete once they have passed
+--   Promise before c a after    the answer and what is held after are those of the definition; what is held stands if it stood before; every
+--                           run that leads to what was held goes on by this call, and keeps the laws as a whole; field and order stay
+-- That what is held is reached by a run is part of the type.
 use Rattle.std.specs.Prelude.{◌≡◌, ℕ, List, Ok, Err, Result}
-use Rattle.field.specs.Fields.{Arithmetic}
-use Rattle.order.specs.Orders.{Compare}
+use Rattle.polynomial.specs.Rings.{arithmetic_of, comparison_of}
 use Rattle.fault.specs.declared.fault.Fault.{Fault}
 use Rattle.run.specs.Calls.{hear}
 use Rattle.run.specs.Hears.{Goes}
 use Rattle.run.specs.Models.{Model, Call, Answer, Done, Told, Refused}
 use Rattle.run.specs.Runs.{model_of}
+use Rattle.run.specs.Standing.{Standing}
 use Rattle.calls.specs.Held.{held}
 use Rattle.calls.specs.declared.held.Checker.{Checker}
 
@@ -25,12 +25,6 @@ abbrev pub told : Result ℕ Fault → List ℕ → Answer
 told (Ok number) after = Told number after
 told (Err e) after = Refused e
 
-abbrev pub arithmetic_of : {F O : Type 0} {f : _} {o : _} → Checker F O f o → Arithmetic
-arithmetic_of {f = f} c = f.arithmetic c.check.ring.field
-
-abbrev pub comparison_of : {F O : Type 0} {f : _} {o : _} → Checker F O f o → Compare
-comparison_of {o = o} c = o.comparison c.check.ring.order
-
 abbrev pub shown : {F O : Type 0} {f : _} {o : _} → Checker F O f o → Model
 shown c = held c.check c.basis c.state
 
@@ -39,8 +33,13 @@ pub record Same {F O : Type 0} {f : _} {o : _} (before after : Checker F O f o) 
   pub basis : after.basis ≡ before.basis
   pub state : after.state ≡ before.state
 
+abbrev pub Stands : {F O : Type 0} {f : _} {o : _} → Checker F O f o → Type 0
+Stands c = Standing (arithmetic_of c.check.ring) (comparison_of c.check.ring) (shown c)
+
 pub record Promise {F O : Type 0} {f : _} {o : _} (before : Checker F O f o) (c : Call) (a : Answer) (after : Checker F O f o) : Type 0 where
-  pub heard : (a, shown after) ≡ hear (arithmetic_of before) (comparison_of before) (shown before) c
-  pub runs : (past : List Call) → model_of (arithmetic_of before) (comparison_of before) past ≡ shown before → Goes (arithmetic_of before) (comparison_of before) past c a (shown after)
+  pub heard : (a, shown after) ≡ hear (arithmetic_of before.check.ring) (comparison_of before.check.ring) (shown before) c
+  pub stands : Stands before → Stands after
+  pub runs : (past : List Call) → model_of (arithmetic_of before.check.ring) (comparison_of before.check.ring) past ≡ shown before
+      → Goes (arithmetic_of before.check.ring) (comparison_of before.check.ring) past c a (shown after)
   pub field : after.check.ring.field ≡ before.check.ring.field
   pub order : after.check.ring.order ≡ before.check.ring.order

@@ -16,5 +16,5 @@ pub enum Call<'a> {
     Question(&'a [u16]),
 }
 
-// Of an answered question the number of terms of the remainder, and of another call that is done nothing.
+// Of an answered question the number of terms of the remainder, of another call that is done nothing, and else why it is refused.
 pub type Reply = Result<Option<usize>, Fault>;

@@ -7,5 +7,6 @@ mod sequence;
 mod writing;
 
 pub use call::{Call, Reply};
+pub use combination::Offered;
 pub use held::Checker;
 pub use sequence::run_calls;

@@ -10,7 +10,7 @@ use order::MonomialOrder;
 use std::alloc::{AllocError, Global};
 
 impl<F: Field + Drop, O: MonomialOrder + Drop> Checker<F, O> {
-    // Makes one call; a question writes into the result table.
+    // Makes one call; a question writes into the result table. A call is data, so one match takes it apart.
     pub fn call(&mut self, call: &Call, result_table: &mut [u16]) -> Reply
         ensures promise { Promise self.old (request call.now result_table.old) (spoken result result_table.new) self.new }
         ensures table { result_table.new ≡ left_by (spoken result result_table.new) result_table.old }

@@ -45,6 +45,7 @@ fn s_polynomial<F: Field, O: MonomialOrder>(
 // So many terms in a and b, the first of them a²b²⁵⁵, and then c².
 fn long_table(heap: Global, count: u16) -> Result<Vec<u16>, AllocError> {
     let mut table = Vec::new(heap);
+    // a term for each number
     for i in 0..count {
         table.extend_from_slice(&[1, 2u16.saturating_sub(i / 256), 255 - i % 256, 0])?;
     }
@@ -56,7 +57,7 @@ fn long_table(heap: Global, count: u16) -> Result<Vec<u16>, AllocError> {
 #[test]
 fn exponents_up_to_255(rt: HostRuntime) -> Result<(), Fail> {
     let mut ring = Ring::new(PrimeField::new(2)?, Lex);
-    ring.set_variables(2)?;
+    assert_eq!(rt; ring.set_variables(2), Ok(()));
     assert_eq!(rt;
         remainder_by_one(&ring, rt.alloc(), &[1, 1, 0, 1, 0, 127], &[1, 2, 0])?,
         Ok(1)
@@ -72,7 +73,7 @@ fn exponents_up_to_255(rt: HostRuntime) -> Result<(), Fail> {
 #[test]
 fn remainder_counts_among_512(rt: HostRuntime) -> Result<(), Fail> {
     let mut ring = Ring::new(PrimeField::new(2)?, Lex);
-    ring.set_variables(3)?;
+    assert_eq!(rt; ring.set_variables(3), Ok(()));
     let element = [1, 0, 0, 2, 1, 0, 0, 1, 1, 0, 0, 0];
     let fits = long_table(rt.alloc(), 510)?;
     assert_eq!(rt;
@@ -91,7 +92,7 @@ fn remainder_counts_among_512(rt: HostRuntime) -> Result<(), Fail> {
 #[test]
 fn pair_exponents_up_to_255(rt: HostRuntime) -> Result<(), Fail> {
     let mut ring = Ring::new(PrimeField::new(7)?, Lex);
-    ring.set_variables(2)?;
+    assert_eq!(rt; ring.set_variables(2), Ok(()));
     let first = [1, 2, 0, 1, 0, 100];
     assert_eq!(rt;
         s_polynomial(&ring, rt.alloc(), &first, &[1, 0, 155, 1, 0, 0])?,

@@ -81,7 +81,7 @@ fn read_list<F: Field, O: MonomialOrder>(
     Ok(list)
 }
 
-fn compare(found: &[Term], expected: &[Term], answer: &str) -> Result<(), Fail> {
+fn expect_equal(found: &[Term], expected: &[Term], answer: &str) -> Result<(), Fail> {
     if !are_equal(found, expected) {
         return Err(Fail::new(format_args!("what is found is not {answer}")));
     }
@@ -100,8 +100,10 @@ fn check_remainder<F: Field, O: MonomialOrder>(
     let expected = read(ring, heap, answer)?;
     let mut division = Division::new(heap)?;
     let family = Family { ring, list: &list };
-    division.divide(&family, dividend.terms())?;
-    compare(division.remainder(), expected.terms(), answer)
+    let Ok(()) = division.divide(&family, dividend.terms()) else {
+        return Err(Fail::new(format_args!("the division meets a limit, not {answer}")));
+    };
+    expect_equal(division.remainder(), expected.terms(), answer)
 }
 
 fn check_s_polynomial<F: Field, O: MonomialOrder>(
@@ -120,8 +122,10 @@ fn check_s_polynomial<F: Field, O: MonomialOrder>(
         first: g.terms(),
         second: h.terms(),
     };
-    division.load_s_polynomial(&pair)?;
-    compare(division.dividend(), expected.terms(), answer)
+    let Ok(()) = division.load_s_polynomial(&pair) else {
+        return Err(Fail::new(format_args!("the S-polynomial meets a limit, not {answer}")));
+    };
+    expect_equal(division.dividend(), expected.terms(), answer)
 }
 
 fn check_in<F: Field + Drop, O: MonomialOrder + Drop>(

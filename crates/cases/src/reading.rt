@@ -1,4 +1,4 @@
-// Polynomials read from tables, for tests. What allocates is passed the heap, as everywhere, so it makes no struct with the ring.
+// Polynomials read from tables, for tests. What allocates is passed the heap, by a rule of the language, so it makes no struct with the ring.
 ghost use Rattle.std.specs.Prelude.{◌≤◌, length, IfOk};
 ghost use Rattle.polynomial.specs.Rings.{Within};
 ghost use Rattle.polynomial.specs.Tables.{most};

@@ -52,6 +52,7 @@ fn offer<F: Field + Drop, O: MonomialOrder + Drop>(
 fn fill<F: Field + Drop, O: MonomialOrder + Drop>(
     checker: &mut ElementChecker<F, O>,
 ) -> (usize, Option<FaultNumbers>) {
+    // a call for each number, up to the first that is refused
     for taken in 0..40 {
         if let Some(refusal) = add(checker, &[]) {
             return (taken, Some(refusal));

@@ -38,6 +38,7 @@ fn read_and_step<F: Field, O: MonomialOrder>(
 // 512 terms in two variables: a·b^255, .., a, b^255, .., 1.
 fn long_table(heap: Global) -> Result<Vec<u16>, AllocError> {
     let mut table = Vec::new(heap);
+    // a term for each number
     for i in 0..512u16 {
         table.extend_from_slice(&[1, 1 - i / 256, 255 - i % 256])?;
     }
@@ -66,7 +67,7 @@ fn exponents_up_to_255(rt: HostRuntime) -> Result<(), Fail> {
 #[test]
 fn terms_up_to_512(rt: HostRuntime) -> Result<(), Fail> {
     let mut ring = Ring::new(PrimeField::new(7)?, Lex);
-    ring.set_variables(2)?;
+    assert_eq!(rt; ring.set_variables(2), Ok(()));
     let mut sum = Accumulator::new(rt.alloc())?;
     let long = long_table(rt.alloc())?;
     assert_eq!(rt;

@@ -15,11 +15,11 @@ use fault::{Fault, Place};
 use field::Field;
 use order::MonomialOrder;
 use polynomial::{
-    Family, MOST_POLYNOMIALS, Polynomial, PolynomialList, Ring, TableSize, Term, VariableCount,
+    Family, MOST_POLYNOMIALS, Polynomial, PolynomialList, Ring, TableSize, Term, VariableCountError,
 };
 use std::alloc::{AllocError, Global};
 
-// The generators are polynomials of the ring.
+// A ring, generators that are polynomials of it, and what checks an offered element against them.
 #[derive(Drop)]
 pub struct ElementChecker<F: Field, O: MonomialOrder> {
     ring: Ring<F, O>,
@@ -59,15 +59,15 @@ impl<F: Field + Drop, O: MonomialOrder + Drop> ElementChecker<F, O> {
         &self.generators
     }
 
-    // The element that was checked last.
+    // The element that was read last: after a check that passed, the element that passed.
     pub fn element(&self) -> &[Term]
         ensures { result.now ≡ self.now.check.element.terms.items }
     {
         self.check.element()
     }
 
-    // No generators any more, in so many variables, if these are from 1 to 24; otherwise nothing changes.
-    pub fn begin(&mut self, variables: usize) -> Result<(), VariableCount>
+    // Forgets the generators and takes so many variables, if they are from 1 to 24; otherwise nothing changes.
+    pub fn begin(&mut self, variables: usize) -> Result<(), VariableCountError>
         ensures done { result ≡ check (nat_le 1 variables && nat_le variables 24) (record {}) }
         ensures variables { self.new.ring.variables ≡ (if nat_le 1 variables && nat_le variables 24 then variables else self.old.ring.variables) }
         ensures generators { polynomials self.new.generators ≡ (if nat_le 1 variables && nat_le variables 24 then [] else polynomials self.old.generators) }

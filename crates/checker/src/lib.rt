@@ -4,3 +4,5 @@
 mod checker;
 
 pub use checker::ElementChecker;
+pub use combination::Offered;
+pub use fault::{ArithmeticFault, Fault, FaultNumbers, Place, TableFault, Work};

@@ -14,7 +14,8 @@ use order::MonomialOrder;
 use polynomial::{Family, Polynomial, TableSize, Term, are_equal};
 use std::alloc::{AllocError, Global};
 
-// An offered basis element: its own table, one table with the cofactors, and how many terms each cofactor has.
+// An offered basis element: its own table, one table with the cofactors, and how many terms each cofactor has. Flat tables are the layout at
+// the boundary.
 #[derive(Clone, Copy, PartialEq, Eq, Debug)]
 pub struct Offered<'a> {
     pub table: &'a [u16],
@@ -29,7 +30,7 @@ pub struct ElementCheck {
 }
 
 impl ElementCheck {
-    // With all the memory that a check will ever take.
+    // With all the memory that a check will ever take. Each type reserves its own parts, so `new` is written for each.
     pub fn new(heap: Global) -> Result<ElementCheck, AllocError>
         ensures { IfOk result (λ c. c.element.terms.items ≡ []) }
     {

@@ -15,21 +15,22 @@ use order::MonomialOrder;
 use polynomial::{Accumulator, Family, Flaw, Limit, Multiple, Polynomial, Ring, TableSize, Term};
 use std::alloc::{AllocError, Global};
 
-// Whose table it was.
+// Whose table it was. A flaw does not know its place, so this is no `From`.
 pub fn in_table(place: Place, read: Result<(), Flaw>) -> Result<(), TableFault>
     ensures { result ≡ because (Flawed place) read }
 {
     read.map_err(|flaw| TableFault::Flawed(place, flaw))
 }
 
-// What was being done.
+// What was being done. A limit does not know the work, so this is no `From`.
 pub fn in_work(work: Work, step: Result<(), Limit>) -> Result<(), ArithmeticFault>
     ensures { result ≡ because (stopped work) step }
 {
     step.map_err(|limit| ArithmeticFault { work, limit })
 }
 
-// Adds the product of a generator and each term of its cofactor, the highest first, one step each.
+// Adds the product of a generator and each term of its cofactor, the highest first, one step each. That cofactor, generator and sum are
+// polynomials of the ring is asked in clauses, since a type cannot name the value of a ring.
 fn add_terms<F: Field, O: MonomialOrder>(
     ring: &Ring<F, O>,
     number: usize,
@@ -131,7 +132,8 @@ impl CofactorSum {
         Ok(())
     }
 
-    // The sum of all cofactors, each from its part of the table, times their generators, from 0.
+    // The sum of all cofactors, each from its part of the table, times their generators, from 0. Its loop cuts parts as the one above does;
+    // what is done with a part differs in what it may change, so that a closure in common would be longer than the loop.
     pub(crate) fn add_cofactors<F: Field, O: MonomialOrder>(
         &mut self,
         table: &CofactorTable<F, O>,

@@ -3,13 +3,13 @@ use polynomial::Term;
 use std::fmt;
 
 // A polynomial.
-#[derive(Clone, Copy)]
+#[derive(Clone, Copy, PartialEq, Eq, Debug)]
 pub struct Shown<'a> {
     pub terms: &'a [Term],
 }
 
 // A term.
-#[derive(Clone, Copy)]
+#[derive(Clone, Copy, PartialEq, Eq, Debug)]
 pub struct ShownTerm<'a> {
     pub term: &'a Term,
 }

@@ -1,4 +1,4 @@
-// One element checked, step by step. What prints is passed `rt`, as everywhere, so it makes no struct with the ring.
+// One element checked, step by step. What prints is passed `rt`, by a rule of the language, so it makes no struct with the ring.
 ghost use Rattle.std.specs.Prelude.{◌≤◌, length, IfOk};
 ghost use Rattle.polynomial.specs.Rings.{Within};
 ghost use Rattle.polynomial.specs.Views.{view};
@@ -14,7 +14,7 @@ use polynomial::{Accumulator, Multiple, Polynomial, Ring, TableSize, Term};
 use std::io;
 
 // The tables of one check; the cofactors both apart, to be shown, and one behind the other, to be checked.
-#[derive(Clone, Copy)]
+#[derive(Clone, Copy, PartialEq, Eq, Debug)]
 pub struct Sheet<'a> {
     pub first_generator: &'a [u16],
     pub second_generator: &'a [u16],
@@ -24,7 +24,7 @@ pub struct Sheet<'a> {
 }
 
 // Reads a polynomial and shows it.
-fn read_and_tell<F: Field, O: MonomialOrder>(
+pub(crate) fn read_and_tell<F: Field, O: MonomialOrder>(
     rt: &HostRuntime,
     ring: &Ring<F, O>,
     name: &str,
@@ -44,7 +44,8 @@ fn read_and_tell<F: Field, O: MonomialOrder>(
     Ok(polynomial)
 }
 
-// Adds cofactor × generator to the sum, one step for each term of the cofactor.
+// Adds cofactor × generator to the sum, one step for each term of the cofactor, aloud. It asks what the silent sum of `combination` asks, for the
+// same reason: a type cannot name the value of a ring.
 fn add_and_tell<F: Field, O: MonomialOrder>(
     rt: &HostRuntime,
     ring: &Ring<F, O>,

@@ -12,7 +12,7 @@ pub struct Divisor {
     pub quotient: Monomial,
 }
 
-// What element number `number` gives to divide this monomial by.
+// Element number `number` and the quotient by its leading monomial, if that divides this monomial.
 fn divisor_at(elements: &PolynomialList, monomial: &Monomial, number: usize) -> Option<Divisor>
     ensures { Gives (polynomials elements.now) (exponents_of monomial.now) number result }
 {

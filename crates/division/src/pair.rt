@@ -8,7 +8,7 @@ use field::Field;
 use order::MonomialOrder;
 use polynomial::{Ring, Term};
 
-// Two polynomials beside the ring that they belong to, of at most 512 terms each.
+// Two polynomials beside the ring that they belong to, of at most 512 terms each. A `Family` has its polynomials in a list, by number.
 #[derive(Drop)]
 pub struct Pair<'a, F: Field, O: MonomialOrder> {
     pub ring: &'a Ring<F, O>,

@@ -3,7 +3,7 @@ ghost use Rattle.std.specs.Prelude.{◌≡◌};
 ghost use Rattle.fault.specs.declared.fault.Fault.TheVariants.{Field as FieldLayer, Variables, Table as TableLayer, Arithmetic as ArithmeticLayer};
 
 use field::FieldFault;
-use polynomial::{Flaw, Limit, VariableCount};
+use polynomial::{Flaw, Limit, VariableCountError};
 
 // Whose table it is, by number from 0.
 #[derive(Clone, Copy, PartialEq, Eq, Debug)]
@@ -66,7 +66,7 @@ pub enum Fault {
     PairLeft(usize, usize),
 }
 
-// These three are written out: a derived `From` promises nothing of what it makes.
+// A `From` is written out: a derived one promises nothing of what it makes.
 impl From<FieldFault> for Fault {
     ghost from_gives = { λ e f. f ≡ FieldLayer e };
 
@@ -91,10 +91,10 @@ impl From<ArithmeticFault> for Fault {
     }
 }
 
-impl From<VariableCount> for Fault {
+impl From<VariableCountError> for Fault {
     ghost from_gives = { λ e f. f ≡ Variables };
 
-    fn from(_: VariableCount) -> Fault {
+    fn from(_: VariableCountError) -> Fault {
         Fault::Variables
     }
 }

@@ -6,6 +6,7 @@ use crate::fault::{ArithmeticFault, Fault, Place, TableFault, Work};
 use field::FieldFault;
 use polynomial::{Flaw, Limit};
 
+// Five plain numbers: the form in which a fault is handed to whoever reads it.
 #[derive(Clone, Copy, PartialEq, Eq, Debug)]
 pub struct FaultNumbers {
     pub refusal: u16,
@@ -83,6 +84,7 @@ impl TableFault {
     }
 }
 
+// One match for each kind of fault: they are alike in shape, and every line is another fault.
 impl ArithmeticFault {
     pub fn numbers(&self) -> FaultNumbers
         ensures { result ≡ arithmetic_numbers self.now }

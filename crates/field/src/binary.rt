@@ -19,6 +19,7 @@ pub struct BinaryField {
 }
 
 impl BinaryField {
+    // Written out in both fields: which sizes are listed and what they mean is all that a constructor says.
     pub fn new(size: u16) -> Result<BinaryField, FieldFault>
         ensures { MatchResult result
             (λ f. (is_binary_size size ≡ true) × (binaries f.size ≡ binaries size))
@@ -51,6 +52,7 @@ impl BinaryField {
         let mut shifted = a;
         let mut bits = b;
         let mut total = 0;
+        // bits are shifted out one by one: a number has no iterator over them
         for _ in 0..MOST_BITS {
             if bits % 2 == 1 {
                 total ^= shifted;

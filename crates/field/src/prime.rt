@@ -13,6 +13,7 @@ pub struct PrimeField {
 }
 
 impl PrimeField {
+    // Written out in both fields: which sizes are listed and what they mean is all that a constructor says.
     pub fn new(size: u16) -> Result<PrimeField, FieldFault>
         ensures { MatchResult result
             (λ f. (is_prime_size size ≡ true) × (residues f.modulus ≡ residues size))

@@ -5,8 +5,6 @@ use Rattle.std.specs.declared.cmp.Ordering.{Ordering}
 use Rattle.std.proofs.Common.{sym, ap, ap₂, ◌∙◌, arith}
 use mathlib.Core.List.{reverse-cons, reverse-reverse}
 use Rattle.std.proofs.lemmas.List.{length-reverse}
-use Rattle.std.proofs.lemmas.List.Recursion.{is_sum_by}
-use Rattle.std.proofs.lemmas.List.Sorted.{sum_by-IsPermutation, IsPermutation-reverse}
 use Rattle.std.specs.Ordering.{ordering_then, nat_cmp}
 use Rattle.order.specs.Monomials.{Monomial, multiply}
 use Rattle.order.specs.Orders.{OrderLaws}
@@ -75,10 +73,13 @@ tie_sums (x ∷ a) (y ∷ b) h = at (by_degree (x ∷ a) (y ∷ b)) refl (tie_su
         ap (λ o. ordering_then o (lex b a)) (rank_balanced y x (degree a) (degree b) (omega arith)) ∙ later
     at Greater e later = refl
 
+degree_push : (a : List ℕ) (x : ℕ) → degree (a ++ (x ∷ [])) ≡ x + degree a
+degree_push [] x = refl
+degree_push (y ∷ a) x = let e = degree_push a x in omega arith
+
 degree_backward : (a : List ℕ) → degree (backward a) ≡ degree a
-degree_backward a =
-    let is_sum = is_sum_by degree (λ x. x) refl (λ _ _. refl) in
-    is_sum (backward a) ∙ sum_by-IsPermutation (λ x. x) a (backward a) (IsPermutation-reverse a) ∙ sym (is_sum a)
+degree_backward [] = refl
+degree_backward (x ∷ a) = ap degree (reverse-cons x a) ∙ degree_push (backward a) x ∙ ap (λ d. x + d) (degree_backward a)
 
 multiply_push : (a b : List ℕ) (x y : ℕ) → length a ≡ length b → multiply (a ++ (x ∷ [])) (b ++ (y ∷ [])) ≡ multiply a b ++ ((x + y) ∷ [])
 multiply_push [] [] x y h = refl

@@ -5,7 +5,7 @@ ghost use Rattle.order.specs.Orders.{comparable};
 
 pub const MOST_VARIABLES: usize = 24;
 
-pub const MOST_EXPONENT: u16 = 255;
+const MOST_EXPONENT: u16 = 255;
 
 pub(crate) fn are_comparable(a: &[u16], b: &[u16]) -> bool
     ensures { result ≡ comparable a.now b.now }

@@ -1,6 +1,6 @@
 // A sum that grows by one multiple after another, in memory reserved once.
 // A clause says that the sum is a polynomial of the ring: a sum outlives the ring's number of variables, so its type cannot.
-ghost use Rattle.std.specs.Prelude.{◌≡◌, ◌≤◌, [], ◌∷◌, length, IfOk, if◌then◌else◌, MatchOption, MatchResult, nat_le};
+ghost use Rattle.std.specs.Prelude.{◌≡◌, [], ◌∷◌, length, IfOk, if◌then◌else◌, MatchOption, MatchResult, nat_le};
 ghost use Rattle.ideal.specs.Polynomials.{sum, multiple};
 ghost use Rattle.polynomial.specs.Limits.{step};
 ghost use Rattle.polynomial.specs.Results.{answered, check};
@@ -16,6 +16,7 @@ use field::Field;
 use order::MonomialOrder;
 use std::alloc::{AllocError, Global};
 
+// Only its sum is shown, so four methods hand on what `Polynomial` does: the two other polynomials are room for a step.
 #[derive(Drop)]
 pub struct Accumulator {
     sum: Polynomial,
@@ -24,7 +25,7 @@ pub struct Accumulator {
 }
 
 impl Accumulator {
-    // The sum 0, with all the memory that a step will ever take.
+    // The sum 0, with all the memory that a step will ever take. Each type reserves its own parts, so `new` is written for each.
     pub fn new(heap: Global) -> Result<Accumulator, AllocError>
         ensures { IfOk result (λ a. a.sum.terms.items ≡ []) }
     {
@@ -70,14 +71,14 @@ impl Accumulator {
     pub fn add<F: Field, O: MonomialOrder>(
         &mut self,
         beside: usize,
-        product: &Multiple<F, O>,
+        summand: &Multiple<F, O>,
     ) -> Result<(), Limit>
-        requires { Within product.now.ring.now (view self.old.sum.terms.items) }
-        ensures value { answered result (view self.new.sum.terms.items) ≡ step (over product.now.ring.now) beside (term_of product.now.factor) (view product.now.polynomial.now) (view self.old.sum.terms.items) }
-        ensures sum { MatchResult result (λ _. view self.new.sum.terms.items ≡ sum (over product.now.ring.now) (multiple (over product.now.ring.now) (term_of product.now.factor) (view product.now.polynomial.now)) (view self.old.sum.terms.items)) (λ _. self.new.sum.terms.items ≡ self.old.sum.terms.items) }
-        ensures within { Within product.now.ring.now (view self.new.sum.terms.items) }
+        requires { Within summand.now.ring.now (view self.old.sum.terms.items) }
+        ensures value { answered result (view self.new.sum.terms.items) ≡ step (over summand.now.ring.now) beside (term_of summand.now.factor) (view summand.now.polynomial.now) (view self.old.sum.terms.items) }
+        ensures sum { MatchResult result (λ _. view self.new.sum.terms.items ≡ sum (over summand.now.ring.now) (multiple (over summand.now.ring.now) (term_of summand.now.factor) (view summand.now.polynomial.now)) (view self.old.sum.terms.items)) (λ _. self.new.sum.terms.items ≡ self.old.sum.terms.items) }
+        ensures within { Within summand.now.ring.now (view self.new.sum.terms.items) }
     {
-        product.add_to(beside, self.sum.terms(), &mut self.product, &mut self.spare)?;
+        summand.add_to(beside, self.sum.terms(), &mut self.product, &mut self.spare)?;
         std::mem::swap(&mut self.sum, &mut self.spare);
         Ok(())
     }

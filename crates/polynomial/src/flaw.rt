@@ -28,19 +28,19 @@ pub enum Flaw {
 pub enum Limit {
     // an exponent of a product passes 255
     Exponent,
-    // a sum has more than 512 terms
+    // a polynomial comes to more than 512 terms
     Terms,
 }
 
-// Why a list keeps no polynomial more.
+// Why a list does not keep one more polynomial.
 #[derive(Clone, Copy, PartialEq, Eq, Debug)]
 pub enum Unkept {
     // 32 polynomials are kept already
     ListFull,
-    // it has more than 32 terms
+    // the polynomial has more than 32 terms
     TooLong,
 }
 
-// A number of variables that is not from 1 to 24.
+// A number of variables is not from 1 to 24.
 #[derive(Clone, Copy, PartialEq, Eq, Debug)]
-pub struct VariableCount;
+pub struct VariableCountError;

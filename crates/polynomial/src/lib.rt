@@ -15,7 +15,7 @@ mod term;
 pub use accumulator::Accumulator;
 pub use equality::are_equal;
 pub use family::Family;
-pub use flaw::{Flaw, Limit, TableSize, Unkept, VariableCount};
+pub use flaw::{Flaw, Limit, TableSize, Unkept, VariableCountError};
 pub use list::{MOST_POLYNOMIALS, PolynomialList};
 pub use monomial::{Monomial, multipliers};
 pub use multiple::Multiple;

@@ -90,7 +90,7 @@ module _ {k : Arithmetic} (F : FieldLaws k) {cmp : Compare} (O : (n : ℕ) → O
   pub basis-held : (m : Model) → Standing k cmp m → Each (Held k m.variables cmp) m.basis
   basis-held m s = each_map (Kept k cmp m) (Held k m.variables cmp) (λ p h. h.0) m.basis s.elements_kept
 
-  kept-polynomials : (m : Model) (ps : List Raw) → Each (Kept k cmp m) ps → Each (Polynomial k m.variables cmp) ps
+  pub kept-polynomials : (m : Model) (ps : List Raw) → Each (Kept k cmp m) ps → Each (Polynomial k m.variables cmp) ps
   kept-polynomials m = each_map (Kept k cmp m) (Polynomial k m.variables cmp) (λ p h. h.0.0)
 
   pub derived : (m : Model) → Standing k cmp m → Derived k m.variables cmp m.generators (elements m.basis)

@@ -1,7 +1,7 @@
 // The calls.
 ghost use Rattle.std.specs.Prelude.{◌≡◌, IfOk, OnErr};
 ghost use Rattle.run.specs.Models.{fresh, Open, Rule, Close, Offer, Finish, Question};
-ghost use Rattle.calls.specs.Shown.{shown, said, told, Promise};
+ghost use Rattle.calls.specs.Shown.{shown, said, told, Stands, Promise};
 
 use crate::held::Checker;
 use crate::held::state::enter;
@@ -19,7 +19,8 @@ use std::alloc::{AllocError, Global};
 impl<F: Field + Drop, O: MonomialOrder + Drop> Checker<F, O> {
     // Nothing held, in one variable, and all the memory that a call will ever take.
     pub fn new(heap: Global, field: F, order: O) -> Result<Checker<F, O>, AllocError>
-        ensures { IfOk result (λ c. (shown c ≡ fresh 1) × (c.check.ring.field ≡ field) × (c.check.ring.order ≡ order)) }
+        ensures stands { IfOk result (λ c. Stands c) }
+        ensures fresh { IfOk result (λ c. (shown c ≡ fresh 1) × (c.check.ring.field ≡ field) × (c.check.ring.order ≡ order)) }
     {
         let check = ElementChecker::new(heap, field, order)?;
         let basis = PolynomialList::new(heap)?;
@@ -38,6 +39,7 @@ impl<F: Field + Drop, O: MonomialOrder + Drop> Checker<F, O> {
     pub fn open(&mut self, variables: usize) -> Result<(), Fault>
         ensures { Promise self.old (Open variables) (said result) self.new }
     {
+        // the state comes last: a refused number of variables leaves it
         self.check.begin(variables)?;
         self.basis.clear();
         enter(&mut self.state, CallKind::Open)

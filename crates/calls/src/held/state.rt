@@ -6,7 +6,7 @@ ghost use Rattle.run.specs.Models.{entered};
 use fault::Fault;
 use run::{CallKind, State};
 
-// Whether the state allows the call; the state becomes that in which the call is taken.
+// Whether the state allows the call; the state becomes that in which the call is taken. One table of values: it chooses no step to run.
 pub(crate) fn enter(state: &mut State, kind: CallKind) -> Result<(), Fault>
     ensures state { answered result state.new ≡ entered state.old kind }
     ensures kept { OnErr result (state.new ≡ state.old) }

@@ -1,20 +1,20 @@
 // The table of outside answers: remainders and S-polynomials computed by Singular 4.3.1, and once more by Macaulay2 1.21.
 // `tools/outside_vectors.sing` prints the rows.
 // By the size of the field.
-#[derive(Clone, Copy)]
+#[derive(Clone, Copy, PartialEq, Eq, Debug)]
 pub enum Coefficients {
     Residues(u16),
     Bits(u16),
 }
 
-#[derive(Clone, Copy)]
+#[derive(Clone, Copy, PartialEq, Eq, Debug)]
 pub enum Order {
     Lex,
     Graded,
     Reverse,
 }
 
-#[derive(Clone, Copy)]
+#[derive(Clone, Copy, PartialEq, Eq, Debug)]
 pub enum Question<'a> {
     Remainder {
         dividend: &'a str,
@@ -28,7 +28,7 @@ pub enum Question<'a> {
 }
 
 // Polynomials as texts such as 3a2b + 5: a coefficient's code and the exponents, unless they are 1.
-#[derive(Clone, Copy)]
+#[derive(Clone, Copy, PartialEq, Eq, Debug)]
 pub struct Row<'a> {
     pub coefficients: Coefficients,
     pub order: Order,

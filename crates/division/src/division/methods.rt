@@ -1,7 +1,6 @@
 // Division by the elements of a list.
-ghost use Rattle.std.specs.Prelude.{◌≡◌, ◌+◌, ◌≤◌, [], length, IfOk, if◌then◌else◌, OnErr, OnOk, nat_le, nat_lt};
+ghost use Rattle.std.specs.Prelude.{◌≡◌, ◌+◌, ◌≤◌, [], length, IfOk, if◌then◌else◌, OnErr, OnOk, nat_le};
 ghost use Rattle.polynomial.specs.Kept.{polynomials};
-ghost use Rattle.polynomial.specs.Limits.{step};
 ghost use Rattle.polynomial.specs.Results.{answered, check};
 ghost use Rattle.polynomial.specs.Rings.{over, Within, Factor};
 ghost use Rattle.polynomial.specs.Views.{term_of, exponents_of, view};
@@ -18,8 +17,8 @@ use order::MonomialOrder;
 use polynomial::{Accumulator, Family, Limit, Monomial, Multiple, Polynomial, Ring, Term};
 use std::alloc::{AllocError, Global};
 
-// The clauses on a dividend stay with the calls: a Division holds no ring, which a ghost field would have to name.
-// So do those on one polynomial beside a ring: as one type they would not say that its ring is the family's, and a clause would have to.
+// That a dividend is a polynomial of the ring stays a clause: a division outlives the number of variables of its ring, so its type cannot say it.
+// So does the same of one polynomial beside a family: a slice with a ring of its own would have to say that the two rings are equal instead.
 impl Division {
     // Nothing to divide yet, with all the memory that a division will ever take.
     pub fn new(heap: Global) -> Result<Division, AllocError>

@@ -2,7 +2,7 @@
 ghost use Rattle.std.specs.Prelude.{◌≡◌, ◌<◌, ◌≤◌, ◌&&◌, [], ◌∷◌, ◌++◌, length, IfOk, if◌then◌else◌, MatchOption, nat_le, nat_lt, slice_index_or, take};
 ghost use Rattle.polynomial.specs.Cuts.{total};
 ghost use Rattle.polynomial.specs.Kept.{polynomials};
-ghost use Rattle.polynomial.specs.Places.{has_place};
+ghost use Rattle.polynomial.specs.Places.{place_for};
 ghost use Rattle.polynomial.specs.Views.{view};
 
 use crate::flaw::Unkept;
@@ -57,7 +57,7 @@ impl PolynomialList {
 
     // Keeps one polynomial more, unless there are 32 already or it has more than 32 terms: then nothing changes.
     pub fn push(&mut self, p: &[Term]) -> Result<(), Unkept>
-        ensures done { result ≡ has_place (length (polynomials self.old)) (length p.now) }
+        ensures done { result ≡ place_for (length (polynomials self.old)) (length p.now) }
         ensures kept { polynomials self.new ≡ (if nat_lt (length (polynomials self.old)) 32 && nat_le (length p.now) 32 then polynomials self.old ++ (view p.now ∷ []) else polynomials self.old) }
     {
         if self.len() >= MOST_POLYNOMIALS {
@@ -70,7 +70,7 @@ impl PolynomialList {
         Ok(())
     }
 
-    // How many terms stand before those of polynomial number i.
+    // How many terms stand before those of polynomial number i. An index is asked to be in range, as every index is.
     fn start(&self, i: usize) -> usize
         requires { i < length (polynomials self.now) }
         ensures { result ≡ total (take i self.now.counts.items) }

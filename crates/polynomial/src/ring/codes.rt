@@ -1,4 +1,5 @@
 // The field and the order on what belongs to the ring: there they always answer.
+// That a number is a code, or a monomial has the ring's number of variables, is asked in clauses: a type cannot name the value of a ring.
 ghost use Rattle.polynomial.specs.Rings.{arithmetic_of, comparison_of};
 ghost use Rattle.std.specs.Prelude.{◌≡◌, ◌<◌};
 ghost use Rattle.polynomial.specs.Views.{exponents_of};

@@ -1,11 +1,11 @@
 // Sums of polynomials, within limits.
 // Clauses say `Within` of single slices: a type cannot name the value of a ring, and a ring beside a slice would have to say that two rings are equal instead.
-ghost use Rattle.std.specs.Prelude.{◌≡◌, ◌+◌, ◌<◌, ◌≤◌, [], ◌++◌, length, IfSome, MatchOption, OnOk};
+ghost use Rattle.std.specs.Prelude.{◌≡◌, ◌+◌, ◌<◌, ◌≤◌, [], ◌++◌, length, IfSome, MatchOption};
 ghost use Rattle.std.specs.Option.{option_to_list};
-ghost use Rattle.ideal.specs.Polynomials.{sum, multiple};
-ghost use Rattle.polynomial.specs.Limits.{tight, bounded, step, united};
+ghost use Rattle.ideal.specs.Polynomials.{sum};
+ghost use Rattle.polynomial.specs.Limits.{bounded, united};
 ghost use Rattle.polynomial.specs.Results.{answered};
-ghost use Rattle.polynomial.specs.Rings.{arithmetic_of, over, Within, Factor};
+ghost use Rattle.polynomial.specs.Rings.{arithmetic_of, over, Within};
 ghost use Rattle.polynomial.specs.Views.{term_of, view};
 
 use crate::flaw::Limit;
@@ -17,7 +17,7 @@ use order::MonomialOrder;
 use std::cmp::Ordering;
 
 // One step of a sum: its next term, if the leading terms do not cancel, and what is left of both polynomials.
-#[derive(Clone, Copy)]
+#[derive(Clone, Copy, PartialEq, Eq, Debug)]
 struct Next<'a> {
     term: Option<Term>,
     p: &'a [Term],

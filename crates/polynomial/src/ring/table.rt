@@ -7,8 +7,9 @@ ghost use Rattle.polynomial.specs.Tables.{most, falls, term, read};
 ghost use Rattle.polynomial.specs.Views.{exponents_of, term_of, view};
 
 use crate::flaw::{Flaw, TableSize};
+use crate::list::MOST_KEPT_TERMS;
 use crate::monomial::Monomial;
-use crate::polynomial::Polynomial;
+use crate::polynomial::{MOST_TERMS, Polynomial};
 use crate::ring::Ring;
 use crate::term::Term;
 use field::Field;
@@ -19,8 +20,8 @@ impl TableSize {
         ensures { result ≡ most self }
     {
         match self {
-            TableSize::Short => 32,
-            TableSize::Long => 512,
+            TableSize::Short => MOST_KEPT_TERMS,
+            TableSize::Long => MOST_TERMS,
         }
     }
 }
@@ -46,6 +47,7 @@ impl<F: Field, O: MonomialOrder> Ring<F, O> {
         ensures value { mapped_ok term_of result ≡ term (arithmetic_of self.now) (comparison_of self.now) number (option_map exponents_of last) numbers.now }
         ensures variables { IfOk result (λ t. t.monomial.variables ≡ self.now.variables) }
     {
+        // `split_first` and `ok_or` say no more, and their proof did not close
         let [coefficient, exponents @ ..] = numbers else {
             return Err(Flaw::Length);
         };

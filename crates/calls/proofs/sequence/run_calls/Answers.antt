@@ -16,7 +16,7 @@ loop-call-init g c =
     let new = c.in_ok-checker.checker in
     let k = g.F.Field.arithmetic new.check.ring.field in
     let cmp = g.O.MonomialOrder.comparison new.check.ring.order in
-    let (first, field, order) = c.in_ok-checker.ensures in
+    let (first, field, order) = c.in_ok-checker.ensures.fresh in
     let none : vec_items c.in_ok-replies.replies ≡ [] = search rules in (
       subst₂ (λ m rs. Underway k cmp c.args.calls.now c.args.result_table.now c.args.calls.now m c.args.result_table.now rs) (sym first) (sym none)
           (begun k cmp c.args.calls.now c.args.result_table.now (g.met.F.Field.lawful new.check.ring.field) (g.met.O.MonomialOrder.lawful new.check.ring.order)),
@@ -49,7 +49,7 @@ loop-call-preserved g c =
 pub returns : goal.returns
 returns g c =
     let new = c.in_ok-checker.checker in
-    let (first, field, order) = c.in_ok-checker.ensures in
+    let (first, field, order) = c.in_ok-checker.ensures.fresh in
     let (underway, _, _, count, space) = c.loop-call.invariant in
     let calls = c.args.calls.now in
     subst₂ (λ f o. Sequence (g.F.Field.arithmetic f) (g.O.MonomialOrder.comparison o) calls c.args.result_table.now (vec_items c.loop-call.replies) c.loop-call.result_table) field order
