@@ -4,6 +4,8 @@
 mod call;
 mod held;
 mod sequence;
+#[cfg(test)]
+mod tests;
 mod writing;
 
 pub use call::{Call, Reply};
