@@ -19,7 +19,7 @@ const MOST_TURNS: usize = 20;
 
 // The tables of two elements and of a polynomial that is divided by them.
 #[derive(Clone, Copy, PartialEq, Eq, Debug)]
-pub struct Example<'a> {
+pub(crate) struct Example<'a> {
     pub first: &'a [u16],
     pub second: &'a [u16],
     pub dividend: &'a [u16],
@@ -133,7 +133,7 @@ fn divide_both<F: Field, O: MonomialOrder>(
 }
 
 // Reads the example, and divides.
-pub fn divide_example(rt: &HostRuntime, example: &Example) -> anyhow::Result<()> {
+pub(crate) fn divide_example(rt: &HostRuntime, example: &Example) -> anyhow::Result<()> {
     let Ok(field) = PrimeField::new(7) else {
         return Err(anyhow!("7 is a listed size"));
     };
