@@ -1,0 +1,22 @@
+// Reads a number.
+ghost use Rattle.std.specs.Prelude.{◌≡◌};
+ghost use Rattle.text.specs.Grammar.{number};
+
+// A longer field is refused before its digits are read.
+pub fn read_number(field: &[u8]) -> Option<u16>
+    ensures { result ≡ number field.now }
+{
+    if field.is_empty() || field.len() > 5 || field.len() > 1 && field[0] == b'0' {
+        return None;
+    }
+    let mut value: u16 = 0;
+    for digit in field {
+        if !digit.is_ascii_digit() {
+            return None;
+        }
+        value = value
+            .checked_mul(10)?
+            .checked_add(u16::from(*digit - b'0'))?;
+    }
+    Some(value)
+}
