@@ -16,5 +16,5 @@ pub enum Call<'a> {
     Question(&'a [u16]),
 }
 
-// Of an answered question the number of terms of the remainder, of another call that is done nothing, and else why it is refused.
+// A question that is answered tells how many terms its remainder has; another call that is done tells nothing; a refused call tells why.
 pub type Reply = Result<Option<usize>, Fault>;

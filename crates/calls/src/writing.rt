@@ -18,7 +18,7 @@ fn write_term(term: &Term, result_table: &mut [u16]) -> usize
     count
 }
 
-// Writes a polynomial at the start of the table, and leaves the rest.
+// Writes a polynomial at the start of the table, and leaves the rest. Room is asked, as every write into a slice asks it.
 pub(crate) fn write_terms(terms: &[Term], result_table: &mut [u16])
     requires { length (flat (view terms.now)) ≤ length result_table.old }
     ensures { result_table.new ≡ written (view terms.now) result_table.old }

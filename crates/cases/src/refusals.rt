@@ -1,4 +1,4 @@
-// Every refusal once, by its five numbers: residues modulo 7, one variable, lex.
+// Refusals of the check of an element and of a field, by their five numbers: residues modulo 7, one variable, lex.
 use checker::ElementChecker;
 use combination::Offered;
 use fault::{Fault, FaultNumbers};

@@ -78,6 +78,7 @@ fn tell_turn(
     println!(rt; "    left: {left}; remainder: {remainder}")
 }
 
+// One turn after another, aloud; so many are shown. It asks what a turn asks, for the reason given there.
 fn divide_and_tell<F: Field, O: MonomialOrder>(
     rt: &HostRuntime,
     elements: &Family<F, O>,

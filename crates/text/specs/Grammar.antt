@@ -2,8 +2,8 @@
 --   pieces s bs      what the bytes s part: one piece more than there are bytes s
 --   ended            the lines of a text, from what its bytes 10 part: None stands for bytes after the last byte 10
 --   lines            the lines of a text
---   value            the value of digits, after a value
---   is_plain         some digits, with no needless leading zero
+--   value n          the number n, continued by these digits
+--   is_plain         not empty, and with no needless leading zero
 --   number           1 to 5 digits, at most 65535, with no needless leading zero
 --   and_then         a number before others, if all are there
 --   number_list      the numbers of fields, if each is one
@@ -12,7 +12,7 @@
 --   put_numbers n    a put line's fields: the word put, and the numbers
 --   said n           what a later line says in n variables
 --   meant n          the same, of a line that maybe no byte 10 ends
-use Rattle.std.specs.Prelude.{ℕ, ◌+◌, ◌-◌, ◌*◌, ◌==◌, ◌&&◌, not, Bool, true, false, List, [], ◌∷◌, Option, Some, None, length, if◌then◌else◌, codes, nat_le}
+use Rattle.std.specs.Prelude.{ℕ, suc, ◌+◌, ◌-◌, ◌*◌, ◌==◌, ◌&&◌, not, Bool, true, false, List, [], ◌∷◌, Option, Some, None, length, if◌then◌else◌, codes, nat_le}
 use Rattle.std.specs.List.{slice_split}
 use Rattle.std.specs.Str.{bytes_eq, all_ascii_digits}
 
@@ -50,7 +50,8 @@ number_list [] = Some []
 number_list (w ∷ ws) = and_then (number w) (number_list ws)
 
 pub data Line : Type 0 where
-  Put : ℕ → List ℕ → Line
+  -- the coefficient, and then the exponents
+  Put : List ℕ → Line
   Cofactor : Line
   Rule : Line
   Offer : Line
@@ -61,8 +62,7 @@ pub data Line : Type 0 where
 
 abbrev pub term : ℕ → Option (List ℕ) → Line
 term n None = Other
-term n (Some []) = Other
-term n (Some (c ∷ row)) = if nat_le n 24 && length row == n then Put c row else Other
+term n (Some ns) = if nat_le n 24 && length ns == suc n then Put ns else Other
 
 abbrev pub put_numbers : ℕ → List (List ℕ) → Line
 put_numbers n [] = Other

@@ -21,7 +21,7 @@ pub record Worked : Type 0 where
   pub empty : number [] ≡ None
   pub ended : lines (codes "ab\n\n") ≡ Some (codes "ab") ∷ Some [] ∷ []
   pub open_ended : lines (codes "ab\n\nc") ≡ Some (codes "ab") ∷ Some [] ∷ None ∷ []
-  pub put : said 1 (codes "put 1 2") ≡ Put 1 (2 ∷ [])
+  pub put : said 1 (codes "put 1 2") ≡ Put (1 ∷ 2 ∷ [])
   pub two_spaces : said 1 (codes "put 1  2") ≡ Other
   pub too_few : said 2 (codes "put 1 2") ≡ Other
   pub rule : said 24 (codes "rule") ≡ Rule

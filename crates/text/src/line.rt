@@ -35,7 +35,7 @@ fn read_put(line: &[u8], variables: usize) -> Option<Numbers>
     }
 }
 
-// A chain and no match: a match on byte strings is tested byte by byte, and its proof did not close.
+// What a line says that byte 10 ends. A chain and no match: a match on byte strings goes byte by byte, and its proof did not close.
 fn read_ended(line: &[u8], variables: usize) -> Line
     ensures { heard result ≡ said variables line.now }
 {
@@ -56,6 +56,7 @@ fn read_ended(line: &[u8], variables: usize) -> Line
     }
 }
 
+// What a later line says; None is a line that no byte 10 ends.
 pub fn read_line(line: Option<&[u8]>, variables: usize) -> Line
     ensures { heard result ≡ meant variables (shown line.entry) }
 {

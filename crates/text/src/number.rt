@@ -2,7 +2,8 @@
 ghost use Rattle.std.specs.Prelude.{◌≡◌};
 ghost use Rattle.text.specs.Grammar.{number};
 
-// A longer field is refused before its digits are read.
+// The number of a field, if it is one. A field of more than 5 bytes is refused before its digits are read.
+// The loop leaves at the first byte that is no digit: a fold would carry the refusal through the rest.
 pub fn read_number(field: &[u8]) -> Option<u16>
     ensures { result ≡ number field.now }
 {

@@ -19,7 +19,7 @@ use order::MonomialOrder;
 use polynomial::Family;
 
 impl<F: Field + Drop, O: MonomialOrder + Drop> Checker<F, O> {
-    // Divides the generator of that number, which must leave 0. The family is made here and in each division, since a method that lends it
+    // Divides the generator of that number, which must leave 0. An index is asked to be in range, as every index is. The family is made here and in each division, since a method that lends it
     // would lend the whole checker.
     fn divide_generator(&mut self, number: usize) -> Result<(), Fault>
         requires { number < length (shown self.old).generators }

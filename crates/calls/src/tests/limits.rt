@@ -25,6 +25,7 @@ fn hold_one<F: Field + Drop, O: MonomialOrder + Drop>(
 // a³¹ + .. + a + 1, or the same in b.
 fn powers(heap: Global, in_a: bool) -> Result<Vec<u16>, AllocError> {
     let mut table = Vec::new(heap);
+    // a term for each number
     for i in 0..32u16 {
         let exponent = 31 - i;
         if in_a {
@@ -36,7 +37,7 @@ fn powers(heap: Global, in_a: bool) -> Result<Vec<u16>, AllocError> {
     Ok(table)
 }
 
-// The products are all different: 16 of them make 512 terms.
+// No two products share a monomial, so 16 steps make 512 terms.
 #[test]
 fn sums_of_cofactors(rt: HostRuntime) -> Result<(), Fail> {
     let mut checker = Checker::new(rt.alloc(), PrimeField::new(7)?, Lex)?;
@@ -110,6 +111,7 @@ fn dividing_what_is_asked(rt: HostRuntime) -> Result<(), Fail> {
     checker.finish()?;
     let mut table = Vec::new(rt.alloc());
     table.extend_from_slice(&[1, 1, 0, 0])?;
+    // a term for each number
     for i in 0..511u16 {
         table.extend_from_slice(&[1, 0, 3 - i / 256, 255 - i % 256])?;
     }

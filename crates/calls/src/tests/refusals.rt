@@ -36,14 +36,17 @@ fn states(rt: HostRuntime) -> Result<(), Fail> {
     Ok(())
 }
 
-// The state is asked before the table, and the place before it too.
+// The state is asked before the place, and the place before the table.
 #[test]
 fn thirty_two_of_each(rt: HostRuntime) -> Result<(), Fail> {
     let mut checker = Checker::new(rt.alloc(), PrimeField::new(7)?, Lex)?;
+    // so many calls
     for _ in 0..32 {
         assert_eq!(rt; refusal(checker.rule(&[1, 1])), None);
     }
     assert_eq!(rt; refusal(checker.rule(&[0])), five(3, 4, 0, 0, 0));
+    assert_eq!(rt; refusal(checker.close()), None);
+    assert_eq!(rt; refusal(checker.rule(&[0])), five(2, 4, 0, 0, 0));
     assert_eq!(rt; refusal(checker.open(1)), None);
     assert_eq!(rt; refusal(checker.rule(&[1, 1])), None);
     assert_eq!(rt; refusal(checker.close()), None);

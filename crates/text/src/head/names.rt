@@ -14,7 +14,7 @@ fn is_name(word: &[u8]) -> bool
     word.iter().all(|b| b.is_ascii_lowercase())
 }
 
-// How many names the spaces part, unless a field is none.
+// How many names the spaces part, unless a field is none. One walk that tests and counts: `all` and `count` would be two.
 fn count_fields(fields: &[u8]) -> Option<usize>
     ensures { result ≡ name_count (pieces 32 fields.now) }
 {
@@ -28,6 +28,7 @@ fn count_fields(fields: &[u8]) -> Option<usize>
     Some(count)
 }
 
+// How many names the third line has, if it is of its form.
 pub fn count_names(line: &[u8]) -> Option<usize>
     ensures { result ≡ names (pieces 32 line.now) }
 {

@@ -13,6 +13,7 @@ pub fn is_title(line: &[u8]) -> bool
     line == b"field size order".as_slice()
 }
 
+// Chains, as for the words of a later line.
 fn read_kind(word: &[u8]) -> Option<Kind>
     ensures { result ≡ kind word.now }
 {
