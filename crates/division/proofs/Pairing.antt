@@ -58,7 +58,7 @@ module _ {k : Arithmetic} (F : FieldLaws k) {n : ℕ} {cmp : Compare} (O : Order
   -- x is the factor of g
   module _ (x : Term) (x_coefficient : Some x.coefficient ≡ inverted k.size k.inverse a.coefficient)
       (x_monomial : exponents_of x.monomial ≡ to_lcm (exponents_of a.monomial) (exponents_of b.monomial)) where
-    left_is : term_of x ≡ left
+    pub left_is : term_of x ≡ left
     left_is = ap₂ (λ c s. (c, s)) (some_injective (x_coefficient ∙ inverse_is)) x_monomial
 
     pub left_factor : NonzeroTerm k n (term_of x)
@@ -71,7 +71,7 @@ module _ {k : Arithmetic} (F : FieldLaws k) {n : ℕ} {cmp : Compare} (O : Order
     -- y is the factor of h
     module _ (y : Term) (y_coefficient : Some y.coefficient ≡ inverted k.size (opposite_inverse k) b.coefficient)
         (y_monomial : exponents_of y.monomial ≡ to_lcm (exponents_of b.monomial) (exponents_of a.monomial)) where
-      right_is : term_of y ≡ right
+      pub right_is : term_of y ≡ right
       right_is = ap₂ (λ c s. (c, s)) (some_injective (y_coefficient ∙ opposite_is)) y_monomial
 
       pub right_factor : NonzeroTerm k n (term_of y)

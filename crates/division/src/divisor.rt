@@ -25,5 +25,11 @@ fn divisor_at(elements: &PolynomialList, monomial: &Monomial, number: usize) -> 
 pub fn find_divisor(elements: &PolynomialList, monomial: &Monomial) -> Option<Divisor>
     ensures { Found (polynomials elements.now) (exponents_of monomial.now) result }
 {
-    (0..elements.len()).find_map(|number| divisor_at(elements, monomial, number))
+    // a loop, and no `find_map`: that copies what it looks at once more for every element that does not divide
+    for number in 0..elements.len() {
+        if let Some(divisor) = divisor_at(elements, monomial, number) {
+            return Some(divisor);
+        }
+    }
+    None
 }

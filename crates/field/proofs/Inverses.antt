@@ -23,7 +23,7 @@ module _ (k : Arithmetic) (laws : FieldLaws k) where
       let one : k.product a.0 0 ≡ 1 = ap (k.product a.0) (sym z) ∙ e in
       omega (arith, times_zero a)
 
-  inverse_only : (a : Code k) → a.0 ≢ 0 → (b : Code k) → k.product a.0 b.0 ≡ 1 → b.0 ≡ k.inverse a.0
+  pub inverse_only : (a : Code k) → a.0 ≢ 0 → (b : Code k) → k.product a.0 b.0 ≡ 1 → b.0 ≡ k.inverse a.0
   inverse_only a n b e =
       let i : Code k = (k.inverse a.0, laws.inverse_code a) in
       sym (laws.product_one b) ∙ laws.product_comm (1, laws.two) b

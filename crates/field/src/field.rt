@@ -22,6 +22,10 @@ pub trait Field {
     fn inverse(&self, a: u16) -> Option<u16>
         ensures { result ≡ inverted (arithmetic self.now).size (arithmetic self.now).inverse a }
     {
+        // of 0 there is none: the search would go through all codes
+        if a == 0 {
+            return None;
+        }
         (1..self.size()).find(|b| self.product(a, *b) == Some(1))
     }
 

@@ -5,7 +5,7 @@ ghost use Rattle.order.specs.Orders.{comparable};
 
 pub const MOST_VARIABLES: usize = 24;
 
-const MOST_EXPONENT: u16 = 255;
+pub const MOST_EXPONENT: u16 = 255;
 
 pub(crate) fn are_comparable(a: &[u16], b: &[u16]) -> bool
     ensures { result ≡ comparable a.now b.now }
@@ -17,5 +17,8 @@ pub(crate) fn are_comparable(a: &[u16], b: &[u16]) -> bool
 pub fn is_small(monomial: &[u16]) -> bool
     ensures { result ≡ small monomial.now }
 {
-    monomial.iter().all(|exponent| *exponent <= MOST_EXPONENT)
+    // goes on to the end, so that many exponents are tested at a time: every comparison comes through here
+    monomial
+        .iter()
+        .fold(true, |low, exponent| low & (*exponent <= MOST_EXPONENT))
 }

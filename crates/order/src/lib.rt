@@ -7,7 +7,7 @@ mod lex;
 mod order;
 mod reverse;
 
-pub use exponents::{MOST_VARIABLES, is_small};
+pub use exponents::{MOST_EXPONENT, MOST_VARIABLES, is_small};
 pub use graded::Graded;
 pub use lex::Lex;
 pub use order::MonomialOrder;

@@ -1,6 +1,6 @@
 -- Lists of exponents, a place at a time. Assumes nothing.
-use Rattle.std.proofs.Common.{◌≡◌, ℕ, zero, suc, ◌+◌, ◌-◌, ◌<◌, ◌≤◌, true, ◌&&◌, leb, List, [], ◌∷◌, length, get_or, take, drop, replicate, sym, refl, ap, ◌∙◌, arith}
-use Rattle.std.proofs.lemmas.Bool.{le-leb, leb-true, and_parts, and_from}
+use Rattle.std.proofs.Common.{◌≡◌, ℕ, zero, suc, ◌+◌, ◌-◌, ◌<◌, ◌≤◌, true, false, ◌&&◌, leb, List, [], ◌∷◌, length, get_or, take, drop, replicate, sym, refl, ap, ◌∙◌, inl, inr, arith}
+use Rattle.std.proofs.lemmas.Bool.{cases_Bool, le-leb, leb-true, and_parts, and_from}
 use Rattle.std.proofs.lemmas.List.{ext_get_or, length-drop, get_or-drop, length-replicate, get_or-replicate, length-take-le, get_or-take}
 use Rattle.std.proofs.lemmas.List.Recursion.{and_from_places}
 use Rattle.order.specs.Monomials.{multiply, small}
@@ -33,6 +33,12 @@ small_at i [] s h = absurd (omega arith)
 small_at zero (x ∷ xs) s h = leb-true x 255 (and_parts (leb x 255) (small xs) s).0
 small_at (suc i) (x ∷ xs) s h = small_at i xs (and_parts (leb x 255) (small xs) s).1 (omega arith)
 
+pub not_small : (i : ℕ) (xs : List ℕ) → i < length xs → 255 < get_or xs i 0 → small xs ≡ false
+not_small i xs h k = elim (cases_Bool (small xs)) [
+  | inl t ↦ let l = small_at i xs t h in absurd (omega arith)
+  | inr f ↦ f
+]
+
 pub small-take : (i : ℕ) (xs : List ℕ) → small xs ≡ true → small (take i xs) ≡ true
 small-take zero xs s = refl
 small-take (suc i) [] s = refl
@@ -40,7 +46,7 @@ small-take (suc i) (x ∷ xs) s = let (a, b) = and_parts (leb x 255) (small xs) 
 
 -- places that are all low, and 0 behind a front
 
-small_from : (xs : List ℕ) → ((k : ℕ) → k < length xs → get_or xs k 0 ≤ 255) → small xs ≡ true
+pub small_from : (xs : List ℕ) → ((k : ℕ) → k < length xs → get_or xs k 0 ≤ 255) → small xs ≡ true
 small_from xs low = and_from_places small (λ e. leb e 255) refl (λ _ _. refl) xs 0 (λ k h. le-leb (get_or xs k 0) 255 (low k h))
 
 small-zeros : (m : ℕ) → small (replicate m 0) ≡ true

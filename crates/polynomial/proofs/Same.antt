@@ -12,7 +12,7 @@ use Rattle.polynomial.specs.declared.monomial.Monomial.{Monomial}
 use Rattle.polynomial.specs.declared.term.Term.{Term}
 use Rattle.polynomial.proofs.Comparing.{exponents_length}
 
-exponents_decides : (a b : List ℕ) → Decides (equal_exponents a b) (a ≡ b)
+pub exponents_decides : (a b : List ℕ) → Decides (equal_exponents a b) (a ≡ b)
 exponents_decides = compares_Decides equal_exponents (search rules)
 
 terms_decides : (s t : Written ℕ (List ℕ)) → Decides (equal_terms s t) (s ≡ t)

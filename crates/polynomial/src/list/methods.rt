@@ -75,7 +75,8 @@ impl PolynomialList {
         requires { i < length (polynomials self.now) }
         ensures { result ≡ total (take i self.now.counts.items) }
     {
-        self.counts().iter().take(i).sum()
+        // over a part of the counts, and no `take`: a divisor is looked for in every element, by its number
+        self.counts()[..i].iter().sum()
     }
 
     // Polynomial number i, which begins where those before it end.

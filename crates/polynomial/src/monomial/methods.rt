@@ -4,8 +4,7 @@ ghost use Rattle.order.specs.Monomials.{multiply, small};
 ghost use Rattle.polynomial.specs.Views.{exponents_of};
 
 use crate::monomial::Monomial;
-use order::{MOST_VARIABLES, is_small};
-use std::array;
+use order::{MOST_EXPONENT, MOST_VARIABLES};
 
 impl Monomial {
     // The monomial with these exponents, unless they are too many or one is too high.
@@ -13,11 +12,18 @@ impl Monomial {
         ensures { MatchOption result ((nat_le (length row.now) 24 && small row.now) ≡ false) (λ m. ((nat_le (length row.now) 24 && small row.now) ≡ true) × (exponents_of m ≡ row.now) × (m.variables ≡ length row.now)) }
     {
         let variables = row.len();
-        if variables > MOST_VARIABLES || !is_small(row) {
+        if variables > MOST_VARIABLES {
             return None;
         }
         let mut exponents = [0; 24];
-        exponents[..variables].copy_from_slice(row);
+        // tested and written in one pass: every term of a table comes through here
+        for i in 0..variables {
+            let exponent = row[i];
+            if exponent > MOST_EXPONENT {
+                return None;
+            }
+            exponents[i] = exponent;
+        }
         Some(Monomial {
             exponents,
             variables,
@@ -39,11 +45,12 @@ impl Monomial {
         ensures zeros { drop (min self.now.variables other.now.variables) result ≡ replicate (24 - min self.now.variables other.now.variables) 0 }
     {
         let reach = self.variables.min(other.variables);
-        array::from_fn(|i| if i < reach {
-            f(self.exponents[i], other.exponents[i])
-        } else {
-            0
-        })
+        let mut exponents = [0; 24];
+        // no further than both reach: monomials often have few variables, and all 24 places take several times as long
+        for i in 0..reach {
+            exponents[i] = f(self.exponents[i], other.exponents[i]);
+        }
+        exponents
     }
 
     // The product, unless an exponent passes 255.
@@ -51,9 +58,14 @@ impl Monomial {
         ensures { MatchOption result (small (multiply (exponents_of self.now) (exponents_of other.now)) ≡ false) (λ p. (small (multiply (exponents_of self.now) (exponents_of other.now)) ≡ true) × (exponents_of p ≡ multiply (exponents_of self.now) (exponents_of other.now))) }
     {
         let variables = self.variables.min(other.variables);
-        let exponents = self.combine(other, |mine, others| mine + others);
-        if !is_small(&exponents) {
-            return None;
+        let mut exponents = [0; 24];
+        // added and tested in one pass, as far as both reach: every term of a multiple comes through here
+        for i in 0..variables {
+            let exponent = self.exponents[i] + other.exponents[i];
+            if exponent > MOST_EXPONENT {
+                return None;
+            }
+            exponents[i] = exponent;
         }
         Some(Monomial {
             exponents,

@@ -20,11 +20,9 @@ impl<F: Field, O: MonomialOrder> Multiple<'_, F, O> {
     {
         out.terms.clear();
         for term in self.polynomial {
-            let monomial = self
-                .factor
-                .monomial
-                .product(&term.monomial)
-                .ok_or(Limit::Exponent)?;
+            let Some(monomial) = self.factor.monomial.product(&term.monomial) else {
+                return Err(Limit::Exponent);
+            };
             let coefficient = self.ring.times(self.factor.coefficient, term.coefficient);
             out.terms.push_reserved(Term {
                 coefficient,

@@ -38,25 +38,48 @@ impl<F: Field, O: MonomialOrder> Ring<F, O> {
         })
     }
 
-    // The next step of the sum of p and q, unless nothing is left of either.
-    fn next<'a>(&self, p: &'a [Term], q: &'a [Term]) -> Option<Next<'a>>
+    // The next step of the sum of p and q, of which something is left. That is asked, and there is no `Option` around the step: in one, each term
+    // was copied once more, which took half again the time of a sum.
+    fn next<'a>(&self, p: &'a [Term], q: &'a [Term]) -> Next<'a>
         requires p_within { Within self.now (view p.now) }
         requires q_within { Within self.now (view q.now) }
-        ensures end { MatchOption result ((p.now ≡ []) × (q.now ≡ [])) (λ n. length n.p.now + length n.q.now < length p.now + length q.now) }
-        ensures within { IfSome result (λ n. Within self.now (view n.p.now) × Within self.now (view n.q.now)) }
-        ensures sum { IfSome result (λ n. sum (over self.now) (view p.now) (view q.now) ≡ view (option_to_list n.term) ++ sum (over self.now) (view n.p.now) (view n.q.now)) }
+        requires some { 0 < length p.now + length q.now }
+        ensures falls { length result.p.now + length result.q.now < length p.now + length q.now }
+        ensures within { Within self.now (view result.p.now) × Within self.now (view result.q.now) }
+        ensures sum { sum (over self.now) (view p.now) (view q.now) ≡ view (option_to_list result.term) ++ sum (over self.now) (view result.p.now) (view result.q.now) }
     {
-        let (term, p, q) = match (p, q) {
-            ([], []) => return None,
-            ([], [y, later @ ..]) => (Some(*y), p, later),
-            ([x, later @ ..], []) => (Some(*x), later, q),
-            ([x, later_p @ ..], [y, later_q @ ..]) => match self.compare(&x.monomial, &y.monomial) {
-                Ordering::Less => (Some(*y), p, later_q),
-                Ordering::Greater => (Some(*x), later_p, q),
-                Ordering::Equal => (self.unite(*x, *y), later_p, later_q),
-            },
+        let [x, later_p @ ..] = p else {
+            return Next {
+                term: Some(q[0]),
+                p,
+                q: &q[1..],
+            };
         };
-        Some(Next { term, p, q })
+        let [y, later_q @ ..] = q else {
+            return Next {
+                term: Some(*x),
+                p: later_p,
+                q,
+            };
+        };
+        let (x, y) = (*x, *y);
+        match self.compare(&x.monomial, &y.monomial) {
+            Ordering::Less => Next {
+                term: Some(y),
+                p,
+                q: later_q,
+            },
+            Ordering::Greater => Next {
+                term: Some(x),
+                p: later_p,
+                q,
+            },
+            Ordering::Equal => Next {
+                term: self.unite(x, y),
+                p: later_p,
+                q: later_q,
+            },
+        }
     }
 
     // The sum of p and q, if it has at most `room` terms.
@@ -74,15 +97,16 @@ impl<F: Field, O: MonomialOrder> Ring<F, O> {
     {
         out.terms.clear();
         let (mut p, mut q) = (p, q);
-        while let Some(next) = self.next(p, q) {
+        while !p.is_empty() || !q.is_empty() {
+            let next = self.next(p, q);
+            p = next.p;
+            q = next.q;
             if let Some(term) = next.term {
                 if out.terms.len() >= room {
                     return Err(Limit::Terms);
                 }
                 out.terms.push_reserved(term);
             }
-            p = next.p;
-            q = next.q;
         }
         Ok(())
     }

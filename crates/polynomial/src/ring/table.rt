@@ -55,7 +55,10 @@ impl<F: Field, O: MonomialOrder> Ring<F, O> {
         if coefficient == 0 || coefficient >= self.field.size() {
             return Err(Flaw::Coefficient(number));
         }
-        let monomial = Monomial::from_exponents(exponents).ok_or(Flaw::Exponent(number))?;
+        // no `ok_or` and `?`, here and in a multiple: they copy the monomial once more
+        let Some(monomial) = Monomial::from_exponents(exponents) else {
+            return Err(Flaw::Exponent(number));
+        };
         if !self.falls(last, &monomial) {
             return Err(Flaw::Order(number));
         }

@@ -1,6 +1,6 @@
 -- The counts before number i add up to no more than all of them do.
 use Rattle.std.proofs.Common.{◌≡◌, ℕ, List, take, refl, sym, ap, ◌∙◌, arith}
-use Rattle.std.proofs.lemmas.Iterator.{YieldsList-from_slice, YieldsList-from_take}
+use Rattle.std.proofs.lemmas.Iterator.{YieldsList-from_slice}
 use Rattle.std.proofs.lemmas.Iterator.Consumers.{sum_from_yields_List, fits_from_yields_list}
 use Rattle.std.proofs.lemmas.List.Recursion.{is_sum_by}
 use Rattle.std.specs.List.{sum}
@@ -21,10 +21,10 @@ sum-requires-clause-fits c =
     let few = l.few in
     let part = total-take_le counts c.args.i in
     let s = summed (take c.args.i counts) in
-    fits_from_yields_list c.take.result _ (YieldsList-from_take c.args.i (YieldsList-from_slice counts cc) cc) (omega arith)
+    fits_from_yields_list c.iter.result _ (YieldsList-from_slice (take c.args.i counts) cc) (omega arith)
 
 pub returns : goal.returns
 returns c =
     let counts = c.counts.result.now in
-    sum_from_yields_List c.take.result c.sum.result c.sum.ensures.ran (YieldsList-from_take c.args.i (YieldsList-from_slice counts cc) cc)
+    sum_from_yields_List c.iter.result c.sum.result c.sum.ensures.ran (YieldsList-from_slice (take c.args.i counts) cc)
     ∙ summed (take c.args.i counts) ∙ ap (λ cs. total (take c.args.i cs)) c.counts.ensures.value

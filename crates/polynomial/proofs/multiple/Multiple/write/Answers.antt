@@ -34,8 +34,8 @@ pub loop-term-preserved : goal.loop-term-preserved
 loop-term-preserved g c =
     let o = over c.args.self.now.ring.now in
     let x = c.term-item.result in
-    let (low, product) = rw c.in_ok-monomial.ensures.ok_part at c.product.ensures in
-    let y : Term = record { coefficient = c.times-coefficient.result; monomial = c.in_ok-monomial.monomial } in
+    let (low, product) = c.in-Some.ensures in
+    let y : Term = record { coefficient = c.times-coefficient.result; monomial = c.in-Some.monomial } in
     let is : term_of y ≡ (o.times c.args.self.now.factor.coefficient x.coefficient, multiply (exponents_of c.args.self.now.factor.monomial) (exponents_of x.monomial)) = cc (c.times-coefficient.ensures, product) in (
       search rules,
       search rules,

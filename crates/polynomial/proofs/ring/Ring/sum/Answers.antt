@@ -1,5 +1,6 @@
 use Rattle.std.proofs.Common.{◌≡◌, ℕ, ◌≤◌, List, [], ◌∷◌, ◌++◌, length, Some, None, Err, vec_items, Option, sym, ap, ◌∙◌, ap₂, append-nil, append_assoc, rules}
 use Rattle.std.specs.Option.{option_to_list}
+use Rattle.std.proofs.lemmas.List.{nil_from_length}
 use Rattle.ideal.specs.Polynomials.{sum}
 use Rattle.ideal.specs.Rings.{Raw}
 use Rattle.polynomial.specs.declared.flaw.Limit.TheVariants.{Terms}
@@ -7,11 +8,9 @@ use Rattle.polynomial.specs.Limits.{bounded}
 use Rattle.polynomial.specs.Rings.{over}
 use Rattle.polynomial.specs.Views.{term_of, view}
 use Rattle.polynomial.specs.declared.term.Term.{Term}
-use Rattle.polynomial.specs.declared.polynomial.Polynomial.{Polynomial}
 use Rattle.polynomial.proofs.Viewing.{view-length, view-append}
 use Rattle.polynomial.proofs.Steps.{too_long, fits}
 use Rattle.polynomial.proofs.ring.Ring.sum.Goals as goal
-use Rattle.polynomial.proofs.ring.Ring.sum.Goals.{in-Some-term+else-len-room, in_default-term}
 
 -- the whole sum, what is written, and what was and is left of the sum, before and behind a step with the term t
 module _ (whole left rest : Raw) (out : List Term) (t : Option Term) (so_far : whole ≡ view out ++ left) (step : left ≡ view (option_to_list t) ++ rest) where
@@ -30,30 +29,31 @@ module _ (whole left rest : Raw) (out : List Term) (t : Option Term) (so_far : w
   unwritten e = turn ∙ ap (λ v. v ++ rest) (ap (λ y. view out ++ view (option_to_list y)) e ∙ append-nil (view out))
 
 pub returns-then-len-room : goal.returns-then-len-room
-returns-then-len-room g c = past _ _ _ (vec_items c.loop-next.out.terms) _ c.loop-next.invariant.so_far c.in-Some.ensures.sum c.args.room c.in-Some-term.term c.in-Some-term.is (search rules)
+returns-then-len-room g c = past _ _ _ (vec_items c.loop-p.out.terms) _ c.loop-p.invariant.so_far c.next-next.ensures.sum c.args.room c.in-Some.term c.in-Some.is (search rules)
 
-pub loop-next-preserved : goal.loop-next-preserved
-loop-next-preserved g c =
-    let out = vec_items c.loop-next.out.terms in
-    elim c.match-next-2.branch [
-      | in-Some-term+else-len-room w ↦ record {
-        p_within = c.in-Some.ensures.within.0;
-        q_within = c.in-Some.ensures.within.1;
-        few = search rules;
-        so_far = written _ _ _ out _ c.loop-next.invariant.so_far c.in-Some.ensures.sum w.in-Some-term.term _ w.in-Some-term.is (ap (λ (o : Polynomial). vec_items o.terms) w.out-is ∙ w.push_reserved.ensures.items);
-      }
-      | in_default-term w ↦ record {
-        p_within = c.in-Some.ensures.within.0;
-        q_within = c.in-Some.ensures.within.1;
-        few = search rules;
-        so_far = rw w.out-is (unwritten _ _ _ out _ c.loop-next.invariant.so_far c.in-Some.ensures.sum w.in_default-term.is);
-      }
-    ]
+pub loop-p-preserved-in-Some : goal.loop-p-preserved-in-Some
+loop-p-preserved-in-Some g c =
+    record {
+      p_within = c.next-next.ensures.within.0;
+      q_within = c.next-next.ensures.within.1;
+      few = search rules;
+      so_far = written _ _ _ (vec_items c.loop-p.out.terms) _ c.loop-p.invariant.so_far c.next-next.ensures.sum c.in-Some.term _ c.in-Some.is c.push_reserved.ensures.items;
+    }
+
+pub loop-p-preserved : goal.loop-p-preserved
+loop-p-preserved g c =
+    record {
+      p_within = c.next-next.ensures.within.0;
+      q_within = c.next-next.ensures.within.1;
+      few = search rules;
+      so_far = unwritten _ _ _ (vec_items c.loop-p.out.terms) _ c.loop-p.invariant.so_far c.next-next.ensures.sum c.in_default.is;
+    }
 
 pub returns : goal.returns
 returns g c =
     let o = over c.args.self.now in
-    let out = vec_items c.loop-next.out.terms in
-    let (p, q) = c.in_default.ensures.end in
-    let whole = c.loop-next.invariant.so_far ∙ ap₂ (λ x y. view out ++ sum o (view x) (view y)) p q ∙ append-nil (view out) in
+    let out = vec_items c.loop-p.out.terms in
+    let p : c.loop-p.p.now ≡ [] = nil_from_length c.loop-p.p.now (search rules) in
+    let q : c.loop-p.q.now ≡ [] = nil_from_length c.loop-p.q.now (search rules) in
+    let whole = c.loop-p.invariant.so_far ∙ ap₂ (λ x y. view out ++ sum o (view x) (view y)) p q ∙ append-nil (view out) in
     fits c.args.room (view out) (rw (view-length out) (search rules)) ∙ ap (bounded c.args.room) (sym whole)

@@ -5,8 +5,8 @@ use Rattle.polynomial.specs.Rings.{over, Within}
 use Rattle.polynomial.specs.Views.{view}
 use Rattle.polynomial.proofs.ring.Ring.sum.Given as goal
 
-abbrev pub invariant-loop-next : goal.invariant-loop-next
-invariant-loop-next g l =
+abbrev pub invariant-loop-p : goal.invariant-loop-p
+invariant-loop-p g l =
     let o = over l.self in
     record {
       p_within : Within l.self (view l.p);
@@ -15,5 +15,5 @@ invariant-loop-next g l =
       so_far : sum o (view l.fn.p) (view l.fn.q) ≡ view (vec_items l.out.terms) ++ sum o (view l.p) (view l.q);
     }
 
-abbrev pub decreases-loop-next : goal.decreases-loop-next
-decreases-loop-next g l = length l.p + length l.q
+abbrev pub decreases-loop-p : goal.decreases-loop-p
+decreases-loop-p g l = length l.p + length l.q
