@@ -22,8 +22,8 @@ pub trait Field {
     fn inverse(&self, a: u16) -> Option<u16>
         ensures { result ≡ inverted (arithmetic self.now).size (arithmetic self.now).inverse a }
     {
-        // of 0 there is none: the search would go through all codes
-        if a == 0 {
+        // of 0 and of what is no code there is none: the search would go through all codes
+        if a == 0 || a >= self.size() {
             return None;
         }
         (1..self.size()).find(|b| self.product(a, *b) == Some(1))

@@ -1,7 +1,7 @@
 -- Lists of exponents, a place at a time. Assumes nothing.
 use Rattle.std.proofs.Common.{◌≡◌, ℕ, zero, suc, ◌+◌, ◌-◌, ◌<◌, ◌≤◌, true, false, ◌&&◌, leb, List, [], ◌∷◌, length, get_or, take, drop, replicate, sym, refl, ap, ◌∙◌, inl, inr, arith}
 use Rattle.std.proofs.lemmas.Bool.{cases_Bool, le-leb, leb-true, and_parts, and_from}
-use Rattle.std.proofs.lemmas.List.{ext_get_or, length-drop, get_or-drop, length-replicate, get_or-replicate, length-take-le, get_or-take}
+use Rattle.std.proofs.lemmas.List.{ext_get_or, length-take-le, get_or-take}
 use Rattle.std.proofs.lemmas.List.Recursion.{and_from_places}
 use Rattle.order.specs.Monomials.{multiply, small}
 
@@ -60,10 +60,6 @@ small-front (suc n) m (x ∷ xs) h = ap (λ b. leb x 255 && b) (small-front n m 
 
 pub low_front : (n m : ℕ) (xs : List ℕ) → n ≤ length xs → drop n xs ≡ replicate m 0 → ((k : ℕ) → k < n → get_or xs k 0 ≤ 255) → small xs ≡ true
 low_front n m xs l zeros low = sym (small-front n m xs zeros) ∙ small_from (take n xs) (λ k h. let d = length-take-le n xs l in rw (get_or-take n xs k 0 (omega arith)) (low k (omega arith)))
-
-pub zeros_from : (n l : ℕ) (xs : List ℕ) → length xs ≡ l → ((k : ℕ) → n ≤ k → k < l → get_or xs k 0 ≡ 0) → drop n xs ≡ replicate (l - n) 0
-zeros_from n l xs long zero_at = ext_get_or 0 (drop n xs) (replicate (l - n) 0) (let d = length-drop n xs in let r = length-replicate {A = ℕ} (l - n) 0 in omega arith)
-    (λ k h. let d = length-drop n xs in get_or-drop n xs k 0 ∙ zero_at (n + k) (omega arith) (omega arith) ∙ sym (get_or-replicate (l - n) k 0 0 (omega arith)))
 
 -- a front that is the same place by place
 pub same_front : (n : ℕ) (xs ys : List ℕ) → n ≤ length xs → n ≤ length ys → ((k : ℕ) → k < n → get_or xs k 0 ≡ get_or ys k 0) → take n xs ≡ take n ys

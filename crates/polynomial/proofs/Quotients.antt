@@ -1,4 +1,4 @@
--- Division of lists of exponents, a place at a time. Assumes nothing.
+-- What lists of exponents are multiplied by to meet, a place at a time. Assumes nothing.
 use Rattle.std.proofs.Common.{◌≡◌, ℕ, zero, suc, ◌-◌, ◌<◌, List, [], ◌∷◌, length, get_or, take, refl, ap, arith}
 use Rattle.ideal.specs.Divisibility.{to_lcm}
 

@@ -59,7 +59,7 @@ module _ (k : Arithmetic) (n : ℕ) (cmp : Compare) where
 
 -- how much is left: c parts of s
 
-one_part : (c s : ℕ) → suc c * s ≡ c * s + s
+pub one_part : (c s : ℕ) → suc c * s ≡ c * s + s
 one_part c s = ap (λ z. z * s) (let u : suc c ≡ c + 1 = omega arith in u) ∙ add-mul c 1 s ∙ ap (λ z. c * s + z) (one-mul s)
 
 pub left-more : (c s l : ℕ) → 0 < s → s ≤ l → l ≡ c * s → (0 < c) × (l - s ≡ (c - 1) * s)

@@ -1,6 +1,6 @@
 // Sums of polynomials, within limits.
 // Clauses say `Within` of single slices: a type cannot name the value of a ring, and a ring beside a slice would have to say that two rings are equal instead.
-ghost use Rattle.std.specs.Prelude.{◌≡◌, ◌+◌, ◌<◌, ◌≤◌, [], ◌++◌, length, IfSome, MatchOption};
+ghost use Rattle.std.specs.Prelude.{◌≡◌, ◌+◌, ◌<◌, ◌≤◌, ◌++◌, length};
 ghost use Rattle.std.specs.Option.{option_to_list};
 ghost use Rattle.ideal.specs.Polynomials.{sum};
 ghost use Rattle.polynomial.specs.Limits.{bounded, united};
@@ -9,7 +9,7 @@ ghost use Rattle.polynomial.specs.Rings.{arithmetic_of, over, Within};
 ghost use Rattle.polynomial.specs.Views.{term_of, view};
 
 use crate::flaw::Limit;
-use crate::polynomial::{MOST_TERMS, Polynomial};
+use crate::polynomial::Polynomial;
 use crate::ring::Ring;
 use crate::term::Term;
 use field::Field;

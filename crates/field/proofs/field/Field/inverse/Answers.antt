@@ -9,4 +9,4 @@ returns g c =
     let k = g.Self.Field.arithmetic c.args.self.now in
     let gives_one = GivesOne k c.args.a in
     let found = first_from_Range _ _ _ _ gives_one (λ b. gives_one b → ⊥) c.find.ensures.ran (λ b q h. search (rules, tests)) (λ b q h. search (rules, tests)) in
-    sought k (g.met.Self.Field.lawful c.args.self.now) c.args.a _ c.find.result (omega arith) (rw c.size.ensures at found)
+    sought k (g.met.Self.Field.lawful c.args.self.now) c.args.a _ c.find.result (omega arith) (rw c.size-2.ensures at found)
